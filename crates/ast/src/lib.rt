@@ -1,0 +1,1 @@
+// The tree of a formula: the Rust's ast.rs.

@@ -1,0 +1,4 @@
+pub mod Outcome
+pub mod Translate
+pub mod Replace
+pub mod Marked

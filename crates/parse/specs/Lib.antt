@@ -1,0 +1,4 @@
+pub mod State
+pub mod Environment
+pub mod Parse
+pub mod Examples

@@ -1,0 +1,349 @@
+-- The parser: the Rust's parse.rs, arm by arm. A step takes the functions of the level below, `node` for parse_node and
+-- `single` for parse_single_node; the depth left falls from level to level.
+-- Assumes nothing.
+use mathlib.Core.Bool.{true, false}
+use mathlib.Core.List.{List}
+use mathlib.Core.Option.{Option, none, some}
+use Prim.Native.Nat.{ℕ, zero, suc, _+_}
+use Prim.Native.Char.{code}
+use lib.ListN.{length}
+use Rattle.attribute.specs.declared.Variant.{Variant}
+use Rattle.attribute.specs.declared.Accent.{Accent}
+use Rattle.attribute.specs.declared.LineThickness.{LineThickness}
+use Rattle.attribute.specs.declared.ColumnAlign.{ColumnAlign}
+use Rattle.error.specs.declared.Refusal.{Refusal}
+use Rattle.token.specs.declared.Token.{Token}
+use Rattle.token.specs.declared.Mark.{Mark}
+use Rattle.token.specs.declared.Binomial.{Binomial}
+use Rattle.token.specs.declared.Undefined.{Undefined}
+use Rattle.token.specs.Texts.{text}
+use Rattle.token.specs.Roles.{parenOf, fenceOf}
+use Rattle.ast.specs.Tree.{Stretched, Leaf, One, Two, Three, Node, leaf, one, two, three, row, matrix, Nodes, snoc, setVariant}
+use Rattle.parse.specs.declared.Parser.{Parser}
+use Rattle.parse.specs.State.{next, new, curIs, peekIs, TextRead, parseText}
+use Rattle.parse.specs.Environment.{Environment, environment}
+
+-- what a function of the parser gives: a value and the state after it, or a refusal
+pub data Parsed (A : Type 0) : Type 0 where
+  made : A → Parser → Parsed A
+  refused : Refusal → Parsed A
+
+-- the Rust's `?`
+infixl 10 _>>=_
+unfoldable pub _>>=_ : {A B : Type 0} → Parsed A → (A × Parser → Parsed B) → Parsed B
+made a p >>= k = k (a, p)
+refused r >>= k = refused r
+
+-- a node with the state after it, where k nodes are built on the way: each takes a record
+unfoldable pub build : ℕ → Node → Parser → Parsed Node
+build k n p = made n (record { cur = p .cur; peek = p .peek; made = p .made + k })
+
+-- ---- parse_group
+
+-- a row, unless it has exactly one node
+unfoldable pub grouped : Nodes → Parser → Parsed Node
+grouped Nodes.none p = build 1 (row Nodes.none) p
+grouped (Nodes._then_ n Nodes.none) p = made n p
+grouped (Nodes._then_ n (Nodes._then_ m ns)) p = build 1 (row (Nodes._then_ n (Nodes._then_ m ns))) p
+
+-- the nodes up to the token `end`, at most k more of them
+unfoldable pub groupUpTo : (Parser → Parsed Node) → List ℕ → Mark → ℕ → Parser → Nodes → Parsed Node
+groupUpTo node s end zero p ns = refused Refusal.UnexpectedToken
+groupUpTo node s end (suc k) p ns =
+    elim (curIs p Mark.EOF) [
+      | true ↦ refused Refusal.UnexpectedToken
+      | false ↦
+          elim (curIs p end) [
+            | true ↦ grouped ns p
+            | false ↦ do
+              (n, q) ← node p
+              groupUpTo node s end k (next s q) (snoc ns n)
+          ]
+    ]
+
+-- each node takes a byte or more, so the budget never runs out
+unfoldable pub parseGroup : (Parser → Parsed Node) → List ℕ → Mark → Parser → Parsed Node
+parseGroup node s end p = groupUpTo node s end (suc (length s)) (next s p) Nodes.none
+
+-- ---- the arms of parse_single_node
+
+unfoldable pub parseSqrt : (Parser → Parsed Node) → List ℕ → Parser → Parsed Node
+parseSqrt node s p =
+    let begin : Parser = next s p in
+    elim (curIs begin Mark.LBracket) [
+      | true ↦ do
+        (degree, q) ← parseGroup node s Mark.RBracket begin
+        (content, r) ← node (next s q)
+        build 1 (two Two.root content degree) r
+      | false ↦ do
+        (content, r) ← node begin
+        build 1 (one One.sqrt content) r
+    ]
+
+-- an arm with two operands, of which `finish` makes the node
+unfoldable pub parseTwo : (Parser → Parsed Node) → List ℕ → (Node → Node → Parser → Parsed Node) → Parser → Parsed Node
+parseTwo node s finish p = do
+  (a, q) ← node (next s p)
+  (b, r) ← node (next s q)
+  finish a b r
+
+unfoldable pub finishBinom : Binomial → Node → Node → Parser → Parsed Node
+finishBinom Binomial.Plain a b p =
+    build 2 (one (One.fenced (text "(") (text ")")) (two (Two.frac LineThickness.Zero) a b)) p
+finishBinom (Binomial.Styled display) a b p =
+    build 4 (one (One.style display) (row (Nodes._then_ (one (One.fenced (text "(") (text ")")) (two (Two.frac LineThickness.Zero) a b)) Nodes.none))) p
+
+-- an arm with one operand, of which `kind` makes the node
+unfoldable pub parseOne : (Parser → Parsed Node) → List ℕ → One → Parser → Parsed Node
+parseOne node s kind p = do
+  (a, q) ← node (next s p)
+  build 1 (one kind a) q
+
+-- a brace x over or under a target, with an explanation behind the mark
+unfoldable pub parseBrace : (Parser → Parsed Node) → List ℕ → Two → Mark → ℕ → Parser → Parsed Node
+parseBrace single s kind mark x p = do
+  (target, q) ← single (next s p)
+  elim (peekIs q mark) [
+    | true ↦ do
+      (expl, r) ← single (next s (next s q))
+      build 3 (two kind target (two kind (leaf (Leaf.operator x)) expl)) r
+    | false ↦ build 2 (two kind target (leaf (Leaf.operator x))) q
+  ]
+
+-- an operator with what stands below and above it, in either order: `both`, `below` and `above` make the node
+unfoldable pub parseLimits : (Parser → Parsed Node) → List ℕ → (Node → Node → Parser → Parsed Node) → (Node → Parser → Parsed Node) → (Node → Parser → Parsed Node) → Node → Parser → Parsed Node
+parseLimits single s both below above target p =
+    elim (peekIs p Mark.Underscore) [
+      | true ↦ do
+        (under, q) ← single (next s (next s p))
+        elim (peekIs q Mark.Circumflex) [
+          | true ↦ do
+            (over, r) ← single (next s (next s q))
+            both under over r
+          | false ↦ below under q
+        ]
+      | false ↦
+          elim (peekIs p Mark.Circumflex) [
+            | true ↦ do
+              (over, q) ← single (next s (next s p))
+              elim (peekIs q Mark.Underscore) [
+                | true ↦ do
+                  (under, r) ← single (next s (next s q))
+                  both under over r
+                | false ↦ above over q
+              ]
+            | false ↦ build 1 target p
+          ]
+    ]
+
+unfoldable pub parseBigOp : (Parser → Parsed Node) → List ℕ → ℕ → Parser → Parsed Node
+parseBigOp single s c p =
+    let op : Node = leaf (Leaf.operator c) in
+    parseLimits single s
+    (λ under over. build 2 (three Three.underOver op under over))
+    (λ under. build 2 (two Two.under op under))
+    (λ over. build 1 (one (One.overOp c Accent.False) over))
+    op p
+
+unfoldable pub parseIntegral : (Parser → Parsed Node) → List ℕ → ℕ → Parser → Parsed Node
+parseIntegral single s c p =
+    let op : Node = leaf (Leaf.operator c) in
+    parseLimits single s
+    (λ sub sup. build 2 (three Three.subSup op sub sup))
+    (λ sub. build 2 (two Two.subscript op sub))
+    (λ sup. build 2 (two Two.superscript op sup))
+    op p
+
+unfoldable pub parseLim : (Parser → Parsed Node) → List ℕ → ℕ → Parser → Parsed Node
+parseLim single s t p =
+    elim (peekIs p Mark.Underscore) [
+      | true ↦ do
+        (under, q) ← single (next s (next s p))
+        build 2 (two Two.under (leaf (Leaf.function t)) under) q
+      | false ↦ build 1 (leaf (Leaf.function t)) p
+    ]
+
+-- the braces of a slashed node are passed unseen
+unfoldable pub parseSlashed : (Parser → Parsed Node) → List ℕ → Parser → Parsed Node
+parseSlashed node s p = do
+  (n, q) ← node (next s (next s p))
+  build 1 (one One.slashed n) (next s q)
+
+unfoldable pub parseStyle : (Parser → Parsed Node) → List ℕ → Variant → Parser → Parsed Node
+parseStyle node s v p = do
+  (n, q) ← node (next s p)
+  made (setVariant v n) q
+
+-- the text of the fence that is the current token
+unfoldable pub withFence : Parser → (ℕ → Parsed Node) → Parsed Node
+withFence p k = elim (fenceOf (p .cur .token)) [ none ↦ refused Refusal.MissingParensethis | some t ↦ k t ]
+
+unfoldable pub parseLeft : (Parser → Parsed Node) → List ℕ → Parser → Parsed Node
+parseLeft node s p =
+    let begin : Parser = next s p in
+    withFence begin (λ open′. do
+      (content, q) ← parseGroup node s Mark.Right begin
+      let after = next s q
+      withFence after (λ close. build 1 (one (One.fenced open′ close) content) after))
+
+-- what `\middle` makes of its operand
+unfoldable pub stretchLeaf : Leaf → Option Stretched
+stretchLeaf (Leaf.number a e) = none
+stretchLeaf (Leaf.letter c v) = none
+stretchLeaf (Leaf.operator c) = some (Stretched.character c)
+stretchLeaf (Leaf.function t) = none
+stretchLeaf (Leaf.functionName a e) = none
+stretchLeaf (Leaf.space w) = none
+stretchLeaf (Leaf.strechedOp o) = none
+stretchLeaf (Leaf.otherOperator t) = some (Stretched.fixed t)
+stretchLeaf (Leaf.sizedParen z t) = none
+stretchLeaf (Leaf.text a e) = none
+stretchLeaf Leaf.ampersand = none
+stretchLeaf Leaf.newLine = none
+stretchLeaf (Leaf.undefined u) = none
+
+unfoldable pub stretch : Node → Option Stretched
+stretch (leaf l) = stretchLeaf l
+stretch (one k a) = none
+stretch (two k a b) = none
+stretch (three k a b c) = none
+stretch (row ns) = none
+stretch (matrix align ns) = none
+
+unfoldable pub parseMiddle : (Parser → Parsed Node) → List ℕ → Parser → Parsed Node
+parseMiddle single s p = do
+  (n, q) ← single (next s p)
+  elim (stretch n) [ none ↦ refused Refusal.MiddleOperand | some o ↦ build 1 (leaf (Leaf.strechedOp o)) q ]
+
+unfoldable pub parseBig : List ℕ → ℕ → Parser → Parsed Node
+parseBig s size p =
+    let after : Parser = next s p in
+    elim (parenOf (after .cur .token)) [
+      | none ↦ refused Refusal.UnexpectedToken
+      | some paren ↦ build 1 (leaf (Leaf.sizedParen size paren)) after
+    ]
+
+-- a row opened for its nodes, or the one node
+unfoldable pub opened : Node → Nodes
+opened (leaf l) = Nodes._then_ (leaf l) Nodes.none
+opened (one k a) = Nodes._then_ (one k a) Nodes.none
+opened (two k a b) = Nodes._then_ (two k a b) Nodes.none
+opened (three k a b c) = Nodes._then_ (three k a b c) Nodes.none
+opened (row ns) = ns
+opened (matrix align ns) = Nodes._then_ (matrix align ns) Nodes.none
+
+unfoldable pub inEnvironment : Environment → Nodes → Parser → Parsed Node
+inEnvironment (Environment.bare align) ns p = build 1 (matrix align ns) p
+inEnvironment (Environment.between t u) ns p = build 2 (one (One.fenced t u) (matrix ColumnAlign.Center ns)) p
+
+-- the environment is looked up after its content is read, and the name behind `\end` is passed unseen
+unfoldable pub parseBegin : (Parser → Parsed Node) → List ℕ → Parser → Parsed Node
+parseBegin node s p =
+    let name : TextRead = parseText s (next s p) in
+    do
+      (content, q) ← parseGroup node s Mark.End (name .after)
+      elim (environment s (name .a) (name .e)) [
+        | none ↦ refused Refusal.UnknownEnvironment
+        | some env ↦ inEnvironment env (opened content) (parseText s (next s q) .after)
+      ]
+
+-- a leaf whose text is read by parse_text
+unfoldable pub parseTextLeaf : List ℕ → (ℕ → ℕ → Leaf) → Parser → Parsed Node
+parseTextLeaf s kind p =
+    let read : TextRead = parseText s (next s p) in
+    build 1 (leaf (kind (read .a) (read .e))) (read .after)
+
+-- the current token by itself
+abbrev pub leafNode : Leaf → Parser → Parsed Node
+leafNode l p = build 1 (leaf l) p
+
+-- ---- parse_single_node without the prime behind it
+
+unfoldable pub parseBare : (Parser → Parsed Node) → (Parser → Parsed Node) → List ℕ → Token → Parser → Parsed Node
+parseBare node single s (Token.Number a e) p = leafNode (Leaf.number a e) p
+parseBare node single s (Token.Letter c v) p = leafNode (Leaf.letter c v) p
+parseBare node single s (Token.Operator c) p = leafNode (Leaf.operator c) p
+parseBare node single s (Token.Function t) p = leafNode (Leaf.function t) p
+parseBare node single s (Token.Space w) p = leafNode (Leaf.space w) p
+parseBare node single s Token.Sqrt p = parseSqrt node s p
+parseBare node single s Token.Frac p = parseTwo node s (λ a b. build 1 (two (Two.frac LineThickness.Medium) a b)) p
+parseBare node single s (Token.Binom display) p = parseTwo node s (finishBinom display) p
+parseBare node single s (Token.Over c acc) p = parseOne node s (One.overOp c acc) p
+parseBare node single s (Token.Under c acc) p = parseOne node s (One.underOp c acc) p
+parseBare node single s Token.Overset p = parseTwo node s (λ over target. build 1 (two Two.overset target over)) p
+parseBare node single s Token.Underset p = parseTwo node s (λ under target. build 1 (two Two.underset target under)) p
+parseBare node single s (Token.Overbrace x) p = parseBrace single s Two.overset Mark.Circumflex x p
+parseBare node single s (Token.Underbrace x) p = parseBrace single s Two.underset Mark.Underscore x p
+parseBare node single s (Token.BigOp c) p = parseBigOp single s c p
+parseBare node single s (Token.Lim t) p = parseLim single s t p
+parseBare node single s Token.Slashed p = parseSlashed node s p
+parseBare node single s (Token.Style v) p = parseStyle node s v p
+parseBare node single s (Token.Integral c) p = parseIntegral single s c p
+parseBare node single s Token.LBrace p = parseGroup node s Mark.RBrace p
+parseBare node single s (Token.Paren t) p = leafNode (Leaf.otherOperator t) p
+parseBare node single s Token.Left p = parseLeft node s p
+parseBare node single s Token.Middle p = parseMiddle single s p
+parseBare node single s (Token.Big size) p = parseBig s size p
+parseBare node single s Token.Begin p = parseBegin node s p
+parseBare node single s Token.OperatorName p = parseTextLeaf s Leaf.functionName p
+parseBare node single s Token.Text p = parseTextLeaf s Leaf.text p
+parseBare node single s Token.Ampersand p = leafNode Leaf.ampersand p
+parseBare node single s Token.NewLine p = leafNode Leaf.newLine p
+parseBare node single s Token.EOF p = leafNode (Leaf.undefined Undefined.EOF) p
+parseBare node single s Token.End p = leafNode (Leaf.undefined Undefined.End) p
+parseBare node single s Token.Right p = leafNode (Leaf.undefined Undefined.Right) p
+parseBare node single s Token.RBrace p = leafNode (Leaf.undefined Undefined.RBrace) p
+parseBare node single s Token.Underscore p = leafNode (Leaf.undefined Undefined.Underscore) p
+parseBare node single s Token.Circumflex p = leafNode (Leaf.undefined Undefined.Circumflex) p
+parseBare node single s (Token.Command a e) p = leafNode (Leaf.undefined (Undefined.Command a e)) p
+
+-- ---- parse_single_node and parse_node over the level below
+
+unfoldable pub singleStep : (Parser → Parsed Node) → (Parser → Parsed Node) → List ℕ → Parser → Parsed Node
+singleStep node single s p = do
+  (n, q) ← parseBare node single s (p .cur .token) p
+  elim (peekIs q Mark.Prime) [
+    | true ↦ build 2 (two Two.superscript n (leaf (Leaf.operator (code "′")))) (next s q)
+    | false ↦ made n q
+  ]
+
+-- a script's operand is a whole node
+unfoldable pub script : (Parser → Parsed Node) → List ℕ → Two → Node → Parser → Parsed Node
+script node s kind left p = do
+  (right, q) ← node (next s (next s p))
+  build 1 (two kind left right) q
+
+unfoldable pub nodeStep : (Parser → Parsed Node) → (Parser → Parsed Node) → List ℕ → Parser → Parsed Node
+nodeStep node single s p = do
+  (left, q) ← single p
+  elim (peekIs q Mark.Underscore) [
+    | true ↦ script node s Two.subscript left q
+    | false ↦ elim (peekIs q Mark.Circumflex) [ true ↦ script node s Two.superscript left q | false ↦ made left q ]
+  ]
+
+-- with no depth left a call is refused, else it has one level less for its own calls
+unfoldable mutual
+  pub parseNode : ℕ → List ℕ → Parser → Parsed Node
+  parseNode zero s p = refused Refusal.TooDeep
+  parseNode (suc d) s p = nodeStep (λ q. parseNode d s q) (λ q. parseSingleNode d s q) s p
+
+  pub parseSingleNode : ℕ → List ℕ → Parser → Parsed Node
+  parseSingleNode zero s p = refused Refusal.TooDeep
+  parseSingleNode (suc d) s p = singleStep (λ q. parseNode d s q) (λ q. parseSingleNode d s q) s p
+
+-- ---- parse
+
+-- the nodes up to the end, at most k more of them
+unfoldable pub nodesUpTo : (Parser → Parsed Node) → List ℕ → ℕ → Parser → Nodes → Parsed Nodes
+nodesUpTo node s zero p ns = refused Refusal.UnexpectedToken
+nodesUpTo node s (suc k) p ns =
+    elim (curIs p Mark.EOF) [
+      | true ↦ made ns p
+      | false ↦ do
+        (n, q) ← node p
+        nodesUpTo node s k (next s q) (snoc ns n)
+    ]
+
+-- the nodes of the body s, with `depth` calls open together at most; the budget is as a group's
+unfoldable pub parse : ℕ → List ℕ → Parsed Nodes
+parse depth s = nodesUpTo (λ p. parseNode depth s p) s (suc (length s)) (new s) Nodes.none
