@@ -14,7 +14,7 @@ use Rattle.token.specs.declared.Undefined.{Undefined}
 use Rattle.token.specs.Texts.{textOf, widthOf}
 use Rattle.token.specs.Debug.{escape, debug}
 use Rattle.lexer.specs.Letters.{letters, encodeAll}
-use Rattle.ast.specs.Tree.{Stretched, Leaf, One, Two, Three, Node, Nodes}
+use Rattle.ast.specs.Tree.{Stretched, Leaf, One, Two, Three, Node, Nodes, empty, _then_}
 
 -- the bytes of a fixed text, of a width, and of the letters of the body s from a up to e
 unfoldable pub fixedText : ℕ → List ℕ
@@ -157,9 +157,9 @@ unfoldable mutual
       bytes "<mtable" ++ bytes (columnAlign align) ++ bytes "><mtr><mtd>" ++ printCells s ns ++ bytes "</mtd></mtr></mtable>"
 
   pub printAll : List ℕ → Nodes → List ℕ
-  printAll s Nodes.none = bytes ""
-  printAll s (Nodes._then_ n ns) = print s n ++ printAll s ns
+  printAll s empty = bytes ""
+  printAll s (n then ns) = print s n ++ printAll s ns
 
   pub printCells : List ℕ → Nodes → List ℕ
-  printCells s Nodes.none = bytes ""
-  printCells s (Nodes._then_ n ns) = cell n (print s n) ++ printCells s ns
+  printCells s empty = bytes ""
+  printCells s (n then ns) = cell n (print s n) ++ printCells s ns

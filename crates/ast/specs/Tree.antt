@@ -63,13 +63,13 @@ mutual
     matrix : ColumnAlign → Nodes → Node
 
   pub data Nodes : Type 0 where
-    none : Nodes
+    empty : Nodes
     _then_ : Node → Nodes → Nodes
 
 infixr 20 _then_
 -- with one more node at the end
 unfoldable pub snoc : Nodes → Node → Nodes
-snoc none n = n then none
+snoc empty n = n then empty
 snoc (m then ns) n = m then (snoc ns n)
 
 -- a letter with the variant v
@@ -99,5 +99,5 @@ unfoldable mutual
   setVariant v (matrix align ns) = matrix align ns
 
   pub setVariants : Variant → Nodes → Nodes
-  setVariants v none = none
+  setVariants v empty = empty
   setVariants v (n then ns) = setVariant v n then setVariants v ns

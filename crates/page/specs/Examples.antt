@@ -1,9 +1,40 @@
 -- Worked examples, which antt computes.
 -- Assumes nothing.
-use Rattle.page.specs.Pieces.{lineFeeds, cut, pieces}
-use Rattle.page.specs.Page.{shown, left, shownAll, paragraphs, leftAll, page}
+use mathlib.Core.Path.{_≡_, refl}
+use mathlib.Core.List.{List, [], _∷_, map}
+use Prim.Native.Nat.{ℕ}
+use Prim.Native.String.{String}
+use Rattle.text.specs.Text.{bytes}
+use Rattle.error.specs.declared.Refusal.{Refusal}
+use Rattle.latex2mathml.specs.Outcome.{Outcome, accepted, refused}
+use Rattle.latex2mathml.specs.Marked.{latex2mathml-opens}
+use Rattle.page.specs.Pieces.{last, piece, lineFeeds, cut, pieces}
+use Rattle.page.specs.Page.{shown, left, shownAll, paragraphs, leftAll, Paged, page}
 
--- whoever unfolds this unfolds all definitions of this crate, as an example has to
+-- whoever unfolds this unfolds all definitions of this crate and of those below it, as an example has to
 unfoldable pub page-opens : Unit {0}
-unfolding lineFeeds cut pieces shown left shownAll paragraphs leftAll page
+unfolding latex2mathml-opens lineFeeds cut pieces shown left shownAll paragraphs leftAll page
 page-opens = tt
+
+-- one line feed is no break, a break takes the whole run, and a paragraph may be empty
+cuts : map (λ s. pieces (bytes s)) ("" ∷ "\n" ∷ "\n\n" ∷ "a\nb\n" ∷ "a\n\n\nb" ∷ [])
+    ≡ last []
+    ∷ last (bytes "\n")
+    ∷ piece [] (bytes "\n\n") (last [])
+    ∷ last (bytes "a\nb\n")
+    ∷ piece (bytes "a") (bytes "\n\n\n") (last (bytes "b"))
+    ∷ []
+unfolding page-opens
+cuts = refl
+
+-- document 01's page, which takes 89 bytes of output
+slip : map (λ room. page (bytes "a$$$\n\n$x$") 61440 65536 room) (89 ∷ 88 ∷ [])
+    ≡ accepted (record {
+      output = bytes "a$$$\n\n<math xmlns=\"http://www.w3.org/1998/Math/MathML\" display=\"inline\"><mi>x</mi></math>";
+      paragraphs = 2;
+      left = 1;
+    })
+    ∷ refused Refusal.OutputTooSmall
+    ∷ []
+unfolding page-opens
+slip = refl

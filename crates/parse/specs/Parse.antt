@@ -18,7 +18,7 @@ use Rattle.token.specs.declared.Binomial.{Binomial}
 use Rattle.token.specs.declared.Undefined.{Undefined}
 use Rattle.token.specs.Texts.{text}
 use Rattle.token.specs.Roles.{parenOf, fenceOf}
-use Rattle.ast.specs.Tree.{Stretched, Leaf, One, Two, Three, Node, leaf, one, two, three, row, matrix, Nodes, snoc, setVariant}
+use Rattle.ast.specs.Tree.{Stretched, Leaf, One, Two, Three, Node, leaf, one, two, three, row, matrix, Nodes, empty, _then_, snoc, setVariant}
 use Rattle.parse.specs.declared.Parser.{Parser}
 use Rattle.parse.specs.State.{next, new, curIs, peekIs, TextRead, parseText}
 use Rattle.parse.specs.Environment.{Environment, environment}
@@ -28,6 +28,10 @@ pub data Parsed (A : Type 0) : Type 0 where
   made : A → Parser → Parsed A
   refused : Refusal → Parsed A
 
+-- a function of the parser that reads a node
+abbrev pub Reads : Type 0
+Reads = Parser → Parsed Node
+
 -- the Rust's `?`
 infixl 10 _>>=_
 unfoldable pub _>>=_ : {A B : Type 0} → Parsed A → (A × Parser → Parsed B) → Parsed B
@@ -35,19 +39,19 @@ made a p >>= k = k (a, p)
 refused r >>= k = refused r
 
 -- a node with the state after it, where k nodes are built on the way: each takes a record
-unfoldable pub build : ℕ → Node → Parser → Parsed Node
+unfoldable pub build : ℕ → Node → Reads
 build k n p = made n (record { cur = p .cur; peek = p .peek; made = p .made + k })
 
 -- ---- parse_group
 
 -- a row, unless it has exactly one node
-unfoldable pub grouped : Nodes → Parser → Parsed Node
-grouped Nodes.none p = build 1 (row Nodes.none) p
-grouped (Nodes._then_ n Nodes.none) p = made n p
-grouped (Nodes._then_ n (Nodes._then_ m ns)) p = build 1 (row (Nodes._then_ n (Nodes._then_ m ns))) p
+unfoldable pub grouped : Nodes → Reads
+grouped empty p = build 1 (row empty) p
+grouped (n then empty) p = made n p
+grouped (n then (m then ns)) p = build 1 (row (n then (m then ns))) p
 
 -- the nodes up to the token `end`, at most k more of them
-unfoldable pub groupUpTo : (Parser → Parsed Node) → List ℕ → Mark → ℕ → Parser → Nodes → Parsed Node
+unfoldable pub groupUpTo : Reads → List ℕ → Mark → ℕ → Parser → Nodes → Parsed Node
 groupUpTo node s end zero p ns = refused Refusal.UnexpectedToken
 groupUpTo node s end (suc k) p ns =
     elim (curIs p Mark.EOF) [
@@ -62,12 +66,12 @@ groupUpTo node s end (suc k) p ns =
     ]
 
 -- each node takes a byte or more, so the budget never runs out
-unfoldable pub parseGroup : (Parser → Parsed Node) → List ℕ → Mark → Parser → Parsed Node
-parseGroup node s end p = groupUpTo node s end (suc (length s)) (next s p) Nodes.none
+unfoldable pub parseGroup : Reads → List ℕ → Mark → Reads
+parseGroup node s end p = groupUpTo node s end (suc (length s)) (next s p) empty
 
 -- ---- the arms of parse_single_node
 
-unfoldable pub parseSqrt : (Parser → Parsed Node) → List ℕ → Parser → Parsed Node
+unfoldable pub parseSqrt : Reads → List ℕ → Reads
 parseSqrt node s p =
     let begin : Parser = next s p in
     elim (curIs begin Mark.LBracket) [
@@ -81,26 +85,28 @@ parseSqrt node s p =
     ]
 
 -- an arm with two operands, of which `finish` makes the node
-unfoldable pub parseTwo : (Parser → Parsed Node) → List ℕ → (Node → Node → Parser → Parsed Node) → Parser → Parsed Node
+unfoldable pub parseTwo : Reads → List ℕ → (Node → Node → Reads) → Reads
 parseTwo node s finish p = do
   (a, q) ← node (next s p)
   (b, r) ← node (next s q)
   finish a b r
 
-unfoldable pub finishBinom : Binomial → Node → Node → Parser → Parsed Node
-finishBinom Binomial.Plain a b p =
-    build 2 (one (One.fenced (text "(") (text ")")) (two (Two.frac LineThickness.Zero) a b)) p
-finishBinom (Binomial.Styled display) a b p =
-    build 4 (one (One.style display) (row (Nodes._then_ (one (One.fenced (text "(") (text ")")) (two (Two.frac LineThickness.Zero) a b)) Nodes.none))) p
+-- a fraction without a line, between parentheses
+unfoldable pub binomial : Node → Node → Node
+binomial a b = one (One.fenced (text "(") (text ")")) (two (Two.frac LineThickness.Zero) a b)
+
+unfoldable pub finishBinom : Binomial → Node → Node → Reads
+finishBinom Binomial.Plain a b p = build 2 (binomial a b) p
+finishBinom (Binomial.Styled display) a b p = build 4 (one (One.style display) (row (binomial a b then empty))) p
 
 -- an arm with one operand, of which `kind` makes the node
-unfoldable pub parseOne : (Parser → Parsed Node) → List ℕ → One → Parser → Parsed Node
+unfoldable pub parseOne : Reads → List ℕ → One → Reads
 parseOne node s kind p = do
   (a, q) ← node (next s p)
   build 1 (one kind a) q
 
 -- a brace x over or under a target, with an explanation behind the mark
-unfoldable pub parseBrace : (Parser → Parsed Node) → List ℕ → Two → Mark → ℕ → Parser → Parsed Node
+unfoldable pub parseBrace : Reads → List ℕ → Two → Mark → ℕ → Reads
 parseBrace single s kind mark x p = do
   (target, q) ← single (next s p)
   elim (peekIs q mark) [
@@ -111,7 +117,7 @@ parseBrace single s kind mark x p = do
   ]
 
 -- an operator with what stands below and above it, in either order: `both`, `below` and `above` make the node
-unfoldable pub parseLimits : (Parser → Parsed Node) → List ℕ → (Node → Node → Parser → Parsed Node) → (Node → Parser → Parsed Node) → (Node → Parser → Parsed Node) → Node → Parser → Parsed Node
+unfoldable pub parseLimits : Reads → List ℕ → (Node → Node → Reads) → (Node → Reads) → (Node → Reads) → Node → Reads
 parseLimits single s both below above target p =
     elim (peekIs p Mark.Underscore) [
       | true ↦ do
@@ -136,7 +142,7 @@ parseLimits single s both below above target p =
           ]
     ]
 
-unfoldable pub parseBigOp : (Parser → Parsed Node) → List ℕ → ℕ → Parser → Parsed Node
+unfoldable pub parseBigOp : Reads → List ℕ → ℕ → Reads
 parseBigOp single s c p =
     let op : Node = leaf (Leaf.operator c) in
     parseLimits single s
@@ -145,7 +151,7 @@ parseBigOp single s c p =
     (λ over. build 1 (one (One.overOp c Accent.False) over))
     op p
 
-unfoldable pub parseIntegral : (Parser → Parsed Node) → List ℕ → ℕ → Parser → Parsed Node
+unfoldable pub parseIntegral : Reads → List ℕ → ℕ → Reads
 parseIntegral single s c p =
     let op : Node = leaf (Leaf.operator c) in
     parseLimits single s
@@ -154,7 +160,7 @@ parseIntegral single s c p =
     (λ sup. build 2 (two Two.superscript op sup))
     op p
 
-unfoldable pub parseLim : (Parser → Parsed Node) → List ℕ → ℕ → Parser → Parsed Node
+unfoldable pub parseLim : Reads → List ℕ → ℕ → Reads
 parseLim single s t p =
     elim (peekIs p Mark.Underscore) [
       | true ↦ do
@@ -164,12 +170,12 @@ parseLim single s t p =
     ]
 
 -- the braces of a slashed node are passed unseen
-unfoldable pub parseSlashed : (Parser → Parsed Node) → List ℕ → Parser → Parsed Node
+unfoldable pub parseSlashed : Reads → List ℕ → Reads
 parseSlashed node s p = do
   (n, q) ← node (next s (next s p))
   build 1 (one One.slashed n) (next s q)
 
-unfoldable pub parseStyle : (Parser → Parsed Node) → List ℕ → Variant → Parser → Parsed Node
+unfoldable pub parseStyle : Reads → List ℕ → Variant → Reads
 parseStyle node s v p = do
   (n, q) ← node (next s p)
   made (setVariant v n) q
@@ -178,7 +184,7 @@ parseStyle node s v p = do
 unfoldable pub withFence : Parser → (ℕ → Parsed Node) → Parsed Node
 withFence p k = elim (fenceOf (p .cur .token)) [ none ↦ refused Refusal.MissingParensethis | some t ↦ k t ]
 
-unfoldable pub parseLeft : (Parser → Parsed Node) → List ℕ → Parser → Parsed Node
+unfoldable pub parseLeft : Reads → List ℕ → Reads
 parseLeft node s p =
     let begin : Parser = next s p in
     withFence begin (λ open′. do
@@ -210,12 +216,12 @@ stretch (three k a b c) = none
 stretch (row ns) = none
 stretch (matrix align ns) = none
 
-unfoldable pub parseMiddle : (Parser → Parsed Node) → List ℕ → Parser → Parsed Node
+unfoldable pub parseMiddle : Reads → List ℕ → Reads
 parseMiddle single s p = do
   (n, q) ← single (next s p)
   elim (stretch n) [ none ↦ refused Refusal.MiddleOperand | some o ↦ build 1 (leaf (Leaf.strechedOp o)) q ]
 
-unfoldable pub parseBig : List ℕ → ℕ → Parser → Parsed Node
+unfoldable pub parseBig : List ℕ → ℕ → Reads
 parseBig s size p =
     let after : Parser = next s p in
     elim (parenOf (after .cur .token)) [
@@ -225,19 +231,19 @@ parseBig s size p =
 
 -- a row opened for its nodes, or the one node
 unfoldable pub opened : Node → Nodes
-opened (leaf l) = Nodes._then_ (leaf l) Nodes.none
-opened (one k a) = Nodes._then_ (one k a) Nodes.none
-opened (two k a b) = Nodes._then_ (two k a b) Nodes.none
-opened (three k a b c) = Nodes._then_ (three k a b c) Nodes.none
+opened (leaf l) = leaf l then empty
+opened (one k a) = one k a then empty
+opened (two k a b) = two k a b then empty
+opened (three k a b c) = three k a b c then empty
 opened (row ns) = ns
-opened (matrix align ns) = Nodes._then_ (matrix align ns) Nodes.none
+opened (matrix align ns) = matrix align ns then empty
 
-unfoldable pub inEnvironment : Environment → Nodes → Parser → Parsed Node
+unfoldable pub inEnvironment : Environment → Nodes → Reads
 inEnvironment (Environment.bare align) ns p = build 1 (matrix align ns) p
 inEnvironment (Environment.between t u) ns p = build 2 (one (One.fenced t u) (matrix ColumnAlign.Center ns)) p
 
 -- the environment is looked up after its content is read, and the name behind `\end` is passed unseen
-unfoldable pub parseBegin : (Parser → Parsed Node) → List ℕ → Parser → Parsed Node
+unfoldable pub parseBegin : Reads → List ℕ → Reads
 parseBegin node s p =
     let name : TextRead = parseText s (next s p) in
     do
@@ -248,18 +254,18 @@ parseBegin node s p =
       ]
 
 -- a leaf whose text is read by parse_text
-unfoldable pub parseTextLeaf : List ℕ → (ℕ → ℕ → Leaf) → Parser → Parsed Node
+unfoldable pub parseTextLeaf : List ℕ → (ℕ → ℕ → Leaf) → Reads
 parseTextLeaf s kind p =
     let read : TextRead = parseText s (next s p) in
     build 1 (leaf (kind (read .a) (read .e))) (read .after)
 
 -- the current token by itself
-abbrev pub leafNode : Leaf → Parser → Parsed Node
+abbrev pub leafNode : Leaf → Reads
 leafNode l p = build 1 (leaf l) p
 
 -- ---- parse_single_node without the prime behind it
 
-unfoldable pub parseBare : (Parser → Parsed Node) → (Parser → Parsed Node) → List ℕ → Token → Parser → Parsed Node
+unfoldable pub parseBare : Reads → Reads → List ℕ → Token → Reads
 parseBare node single s (Token.Number a e) p = leafNode (Leaf.number a e) p
 parseBare node single s (Token.Letter c v) p = leafNode (Leaf.letter c v) p
 parseBare node single s (Token.Operator c) p = leafNode (Leaf.operator c) p
@@ -299,7 +305,7 @@ parseBare node single s (Token.Command a e) p = leafNode (Leaf.undefined (Undefi
 
 -- ---- parse_single_node and parse_node over the level below
 
-unfoldable pub singleStep : (Parser → Parsed Node) → (Parser → Parsed Node) → List ℕ → Parser → Parsed Node
+unfoldable pub singleStep : Reads → Reads → List ℕ → Reads
 singleStep node single s p = do
   (n, q) ← parseBare node single s (p .cur .token) p
   elim (peekIs q Mark.Prime) [
@@ -308,12 +314,12 @@ singleStep node single s p = do
   ]
 
 -- a script's operand is a whole node
-unfoldable pub script : (Parser → Parsed Node) → List ℕ → Two → Node → Parser → Parsed Node
+unfoldable pub script : Reads → List ℕ → Two → Node → Reads
 script node s kind left p = do
   (right, q) ← node (next s (next s p))
   build 1 (two kind left right) q
 
-unfoldable pub nodeStep : (Parser → Parsed Node) → (Parser → Parsed Node) → List ℕ → Parser → Parsed Node
+unfoldable pub nodeStep : Reads → Reads → List ℕ → Reads
 nodeStep node single s p = do
   (left, q) ← single p
   elim (peekIs q Mark.Underscore) [
@@ -323,18 +329,18 @@ nodeStep node single s p = do
 
 -- with no depth left a call is refused, else it has one level less for its own calls
 unfoldable mutual
-  pub parseNode : ℕ → List ℕ → Parser → Parsed Node
+  pub parseNode : ℕ → List ℕ → Reads
   parseNode zero s p = refused Refusal.TooDeep
   parseNode (suc d) s p = nodeStep (λ q. parseNode d s q) (λ q. parseSingleNode d s q) s p
 
-  pub parseSingleNode : ℕ → List ℕ → Parser → Parsed Node
+  pub parseSingleNode : ℕ → List ℕ → Reads
   parseSingleNode zero s p = refused Refusal.TooDeep
   parseSingleNode (suc d) s p = singleStep (λ q. parseNode d s q) (λ q. parseSingleNode d s q) s p
 
 -- ---- parse
 
 -- the nodes up to the end, at most k more of them
-unfoldable pub nodesUpTo : (Parser → Parsed Node) → List ℕ → ℕ → Parser → Nodes → Parsed Nodes
+unfoldable pub nodesUpTo : Reads → List ℕ → ℕ → Parser → Nodes → Parsed Nodes
 nodesUpTo node s zero p ns = refused Refusal.UnexpectedToken
 nodesUpTo node s (suc k) p ns =
     elim (curIs p Mark.EOF) [
@@ -346,4 +352,4 @@ nodesUpTo node s (suc k) p ns =
 
 -- the nodes of the body s, with `depth` calls open together at most; the budget is as a group's
 unfoldable pub parse : ℕ → List ℕ → Parsed Nodes
-parse depth s = nodesUpTo (λ p. parseNode depth s p) s (suc (length s)) (new s) Nodes.none
+parse depth s = nodesUpTo (λ p. parseNode depth s p) s (suc (length s)) (new s) empty

@@ -30,3 +30,21 @@ refused : map wellFormed
     ≡ false ∷ false ∷ false ∷ false ∷ false ∷ false ∷ false ∷ []
 unfolding text-opens
 refused = refl
+
+-- the bytes of one code point of each width, and what is read from them
+encoded : bytes "a¢€😀" ≡ 0x61 ∷ 0xc2 ∷ 0xa2 ∷ 0xe2 ∷ 0x82 ∷ 0xac ∷ 0xf0 ∷ 0x9f ∷ 0x98 ∷ 0x80 ∷ []
+unfolding text-opens
+encoded = refl
+
+decoded : map codePoint
+    (bytes "a" ∷ bytes "¢b" ∷ bytes "€b" ∷ bytes "😀" ∷ [] ∷ (0x80 ∷ 0x80 ∷ []) ∷ (0xe2 ∷ 0x82 ∷ []) ∷ [])
+    ≡ record { code = 0x61; width = 1 }
+    ∷ record { code = 0xa2; width = 2 }
+    ∷ record { code = 0x20ac; width = 3 }
+    ∷ record { code = 0x1f600; width = 4 }
+    ∷ record { code = 0; width = 0 }
+    ∷ record { code = 0xfffd; width = 1 }
+    ∷ record { code = 0xfffd; width = 1 }
+    ∷ []
+unfolding text-opens
+decoded = refl
