@@ -9,11 +9,11 @@ use Rattle.error.specs.declared.Refusal.{Refusal}
 use Rattle.latex2mathml.specs.Outcome.{Outcome, accepted, refused}
 use Rattle.latex2mathml.specs.Marked.{latex2mathml-opens}
 use Rattle.page.specs.Pieces.{last, piece, lineFeeds, cut, pieces}
-use Rattle.page.specs.Page.{shown, left, shownAll, paragraphs, leftAll, Paged, page}
+use Rattle.page.specs.Page.{shown, left, shownAll, paragraphs, leftAll, Paged, page, outputOf, paragraphsOf, leftOf}
 
 -- whoever unfolds this unfolds all definitions of this crate and of those below it, as an example has to
 unfoldable pub page-opens : Unit {0}
-unfolding latex2mathml-opens lineFeeds cut pieces shown left shownAll paragraphs leftAll page
+unfolding latex2mathml-opens lineFeeds cut pieces shown left shownAll paragraphs leftAll page outputOf paragraphsOf leftOf
 page-opens = tt
 
 -- one line feed is no break, a break takes the whole run, and a paragraph may be empty

@@ -1,6 +1,6 @@
 -- The page operation, at the lent sizes.
 -- Assumes nothing.
-use mathlib.Core.List.{List, _++_}
+use mathlib.Core.List.{List, [], _++_}
 use Prim.Native.Nat.{ℕ, suc, _+_}
 use lib.Dec.{ltb}
 use lib.ListN.{length}
@@ -43,3 +43,16 @@ page document store work room = do
   let output = shownAll store work all
   _ ← refuse (ltb room (length output)) Refusal.OutputTooSmall
   accepted (record { output = output; paragraphs = paragraphs all; left = leftAll store work all })
+
+-- what the operation returns beside the number: the output's first bytes, and the two counts, 0 on refusal
+unfoldable pub outputOf : Outcome Paged → List ℕ
+outputOf (accepted p) = p .output
+outputOf (refused r) = []
+
+unfoldable pub paragraphsOf : Outcome Paged → ℕ
+paragraphsOf (accepted p) = p .paragraphs
+paragraphsOf (refused r) = 0
+
+unfoldable pub leftOf : Outcome Paged → ℕ
+leftOf (accepted p) = p .left
+leftOf (refused r) = 0
