@@ -1,2 +1,3 @@
 pub mod EncodeLaws
+pub mod Keys
 pub mod PutLaws
