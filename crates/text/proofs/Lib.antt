@@ -1,3 +1,5 @@
 pub mod EncodeLaws
+pub mod FollowLaws
 pub mod Keys
 pub mod PutLaws
+pub mod Utf8Laws

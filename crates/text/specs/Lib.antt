@@ -1,4 +1,5 @@
 pub mod Utf8
+pub mod Follow
 pub mod Text
 pub mod Put
 pub mod Examples
