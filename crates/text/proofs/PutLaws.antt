@@ -3,12 +3,13 @@
 use mathlib.Core.Path.{_≡_, refl, sym, _∙_, ap}
 use mathlib.Core.Bool.{Bool, true, false}
 use mathlib.Core.List.{List, [], _∷_, _++_, append-assoc, append-nil}
-use Prim.Native.Nat.{ℕ, _+_, _≤_}
+use Prim.Native.Nat.{ℕ, zero, suc, _+_, _-_, _/_, _%_, _≤_, _<_}
 use native.Mathlib.Omega.{arith}
-use native.Mathlib.Nat.{add-assoc, add-zero, zero-add}
-use lib.ListN.{length, take, drop, length-append, length-drop, take-append-drop}
-use lib.Seq.{length-take-le, take-at, drop-at, drop-drop}
-use Rattle.text.specs.Put.{put, Room, Puts}
+use native.Mathlib.Numerals.{add-one}
+use native.Mathlib.Nat.{add-assoc, add-zero, zero-add, sub-zero}
+use lib.ListN.{length, take, drop, set, length-append, length-drop, length-set, take-append-drop}
+use lib.Seq.{length-take-le, take-at, drop-at, drop-drop, set-split, append-snoc}
+use Rattle.text.specs.Put.{put, Room, Puts, digits, unpacked}
 
 -- the front of an output that has bs at a place inside it
 head-length : (o bs : List ℕ) (at : ℕ) → at ≤ length o → length (take at o ++ bs) ≡ at + length bs
@@ -71,3 +72,51 @@ pub puts-nothing : (write : Bool) (o : List ℕ) (at : ℕ) → Puts write o o a
 unfolding put
 puts-nothing true o at = record { place = sym (add-zero at); output = sym (rw (append-nil (take at o), add-zero at) (take-append-drop at o)) }
 puts-nothing false o at = record { place = sym (add-zero at); output = refl }
+
+-- a store puts one byte
+put-one : (o : List ℕ) (at b : ℕ) → at < length o → set o at b ≡ put true o at (b ∷ [])
+unfolding put
+put-one o at b h = set-split o at b h ∙ rw (← append-snoc (take at o) b (drop (suc at) o), add-one)
+
+pub digits-length : (n v : ℕ) → length (digits n v) ≡ n
+unfolding digits
+digits-length zero v = refl
+digits-length (suc n) v = ap suc (digits-length n (v / 256))
+
+-- the lowest n bytes of w, of which the front stands in the output already and the others are the lowest of v
+pub record Packing (o o₀ : List ℕ) (at n w v i : ℕ) : Type 0 where
+  pub front : List ℕ
+  pub long : length front ≡ i
+  pub output : o ≡ put true o₀ at front
+  pub whole : digits n w ≡ front ++ digits (n - i) v
+  pub same : length o ≡ length o₀
+
+pub packing-none : (o : List ℕ) (at n w : ℕ) → Packing o o at n w w 0
+packing-none o at n w = record { front = []; long = refl; output = puts-nothing true o at .output; whole = rw sub-zero; same = refl }
+
+pub packing-more : {o o₀ : List ℕ} {at n w v i : ℕ} → Packing o o₀ at n w v i → i < n → at + n ≤ length o₀
+    → Packing (set o (at + i) (v % 256)) o₀ at n w (v / 256) (i + 1)
+unfolding digits
+packing-more {o} {o₀} {at} {n} {w} {v} {i} p less room =
+    let front = p .front in
+    let more : n - i ≡ suc (n - (i + 1)) = omega arith in
+    record {
+      front = front ++ v % 256 ∷ [];
+      long = length-append front (v % 256 ∷ []) ∙ rw (p .long);
+      output =
+          put-one o (at + i) (v % 256) (omega (arith, p .same))
+          ∙ rw (← p .long)
+          (rw (p .output) (put-then true o₀ front (v % 256 ∷ []) at (λ e. omega (arith, p .long))));
+      whole = p .whole ∙ rw (more, digits, append-assoc front (v % 256 ∷ []) (digits (n - (i + 1)) (v / 256)));
+      same = length-set o (at + i) (v % 256) ∙ p .same;
+    }
+
+pub packing-all : {o o₀ : List ℕ} {at n w v i : ℕ} → Packing o o₀ at n w v i → i ≡ n → o ≡ put true o₀ at (digits n w)
+unfolding digits
+packing-all {o} {o₀} {at} {n} {w} {v} {i} p e =
+    let none : n - i ≡ 0 = omega arith in
+    p .output ∙ ap (λ l. put true o₀ at l) (sym (p .whole ∙ rw (none, digits, append-nil)))
+
+pub unpacked-length : (w : ℕ) → length (unpacked w) ≡ w / 0x100_0000_0000_0000
+unfolding unpacked
+unpacked-length w = digits-length (w / 0x100_0000_0000_0000) w

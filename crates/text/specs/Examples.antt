@@ -6,10 +6,11 @@ use mathlib.Core.List.{List, [], _∷_, map}
 use Prim.Native.Nat.{ℕ}
 use Rattle.text.specs.Utf8.{table, follow, goesOn, wellFormed, begins, value, lead, codePoint, encode}
 use Rattle.text.specs.Text.{bytes}
+use Rattle.text.specs.Put.{digits, unpacked}
 
 -- whoever unfolds this unfolds all definitions of this crate, as an example has to
 unfoldable pub text-opens : Unit {0}
-unfolding table follow goesOn wellFormed begins value lead codePoint encode bytes
+unfolding table follow goesOn wellFormed begins value lead codePoint encode bytes digits unpacked
 text-opens = tt
 
 -- the first and the last code point of each row, and a text of every width
@@ -48,3 +49,8 @@ decoded : map codePoint
     ∷ []
 unfolding text-opens
 decoded = refl
+
+-- a packed text: three bytes, and their number in the highest byte
+packed : unpacked 0x0300_0000_0069_6d6c ≡ bytes "lmi"
+unfolding text-opens
+packed = refl

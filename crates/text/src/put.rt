@@ -5,7 +5,7 @@ ghost use Prim.Native.Nat.{_+_, _≤_};
 ghost use mathlib.Core.Bool.{true};
 ghost use lib.ListN.{length};
 ghost use Rattle.text.specs.Utf8.{encode};
-ghost use Rattle.text.specs.Put.{put, Room, Puts};
+ghost use Rattle.text.specs.Put.{put, Room, Puts, digits, unpacked};
 
 // Copies a piece to the output at a place.
 fn copy(piece: &[u8], out: &mut [u8], at: usize)
@@ -70,4 +70,32 @@ pub fn put_code_point(c: u32, out: &mut [u8], at: usize, write: bool) -> usize
         at,
         write,
     )
+}
+
+// Copies the lowest `len` bytes of a word to the output at a place, the lowest first.
+fn copy_packed(w: u64, len: usize, out: &mut [u8], at: usize)
+    requires { ⌜ at + len ≤ length (now out) ⌝ }
+    ensures { λ _. ⌜ now (out .exit) ≡ put true (now (out .entry)) at (digits len w) ⌝ }
+{
+    let mut v = w;
+    let mut i = 0;
+    while i < len {
+        out[at + i] = (v % 256) as u8;
+        v = v / 256;
+        i += 1;
+    }
+}
+
+// Puts the bytes of a short text that is packed into a word: its highest byte is the length.
+pub fn put_packed(w: u64, out: &mut [u8], at: usize, write: bool) -> usize
+    requires { ⌜ Room write (now out) at (length (unpacked w)) ⌝ }
+    ensures { λ r. ⌜ Puts write (now (out .entry)) (now (out .exit)) at (unpacked w) r ⌝ }
+{
+    let len = (w / 0x100_0000_0000_0000) as usize;
+    let end = at + len;
+    if write {
+        copy_packed(w, len, out, at);
+        return end;
+    }
+    end
 }
