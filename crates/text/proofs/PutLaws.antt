@@ -120,3 +120,33 @@ packing-all {o} {o₀} {at} {n} {w} {v} {i} p e =
 pub unpacked-length : (w : ℕ) → length (unpacked w) ≡ w / 0x100_0000_0000_0000
 unfolding unpacked
 unpacked-length w = digits-length (w / 0x100_0000_0000_0000) w
+
+-- on the way: of the bytes `total` those before `rest` are put, and `place` is behind them
+pub record Putting (write : Bool) (o₀ o : List ℕ) (at place : ℕ) (total rest : List ℕ) : Type 0 where
+  pub done : List ℕ
+  pub puts : Puts write o₀ o at done place
+  pub whole : total ≡ done ++ rest
+
+pub putting-none : (write : Bool) (o : List ℕ) (at : ℕ) (total : List ℕ) → Putting write o o at at total total
+putting-none write o at total = record { done = []; puts = puts-nothing write o at; whole = refl }
+
+module _ {write : Bool} {o₀ o : List ℕ} {at place : ℕ} {total : List ℕ} (bs rest : List ℕ) (room : Room write o₀ at (length total)) (p : Putting write o₀ o at place total (bs ++ rest)) where
+  room-so-far : Room write o₀ at (length (p .done ++ (bs ++ rest)))
+  room-so-far = rw (p .whole) at room
+
+  pub putting-room : Room write o place (length bs)
+  putting-room = room-first bs rest (room-next (p .done) (bs ++ rest) room-so-far (p .puts))
+
+  pub putting-more : {o′ : List ℕ} {place′ : ℕ} → Puts write o o′ place bs place′ → Putting write o₀ o′ at place′ total rest
+  putting-more q = record {
+    done = p .done ++ bs;
+    puts = puts-then (p .done) bs (room-first (p .done ++ bs) rest (rw (← append-assoc (p .done) bs rest) at room-so-far)) (p .puts) q;
+    whole = p .whole ∙ sym (append-assoc (p .done) bs rest);
+  }
+
+pub putting-all : {write : Bool} {o₀ o : List ℕ} {at place : ℕ} {total : List ℕ} → Putting write o₀ o at place total [] → Puts write o₀ o at total place
+putting-all p = rw (p .whole, append-nil) (p .puts)
+
+pub putting-length : {write : Bool} {o₀ o : List ℕ} {at place : ℕ} {total rest : List ℕ} → Room write o₀ at (length total)
+    → Putting write o₀ o at place total rest → length o ≡ length o₀
+putting-length {rest} room p = puts-length (p .done) (room-first (p .done) rest (rw (p .whole) at room)) (p .puts)

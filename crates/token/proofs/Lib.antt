@@ -1,1 +1,2 @@
+pub mod DebugLaws
 pub mod TextsLaws

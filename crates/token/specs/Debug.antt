@@ -2,7 +2,7 @@
 -- Assumes nothing.
 use mathlib.Core.Bool.{Bool, true, false, _||_}
 use mathlib.Core.List.{List, [], _∷_, _++_}
-use Prim.Native.Nat.{ℕ, _+_, _/_, _%_}
+use Prim.Native.Nat.{ℕ, _/_, _%_, _≤_}
 use Prim.Native.Char.{code}
 use lib.Dec.{eqb, ltb}
 use lib.ListN.{getD}
@@ -56,3 +56,13 @@ debug s Undefined.RBrace = bytes "RBrace"
 debug s Undefined.Underscore = bytes "Underscore"
 debug s Undefined.Circumflex = bytes "Circumflex"
 debug s (Undefined.Command a e) = bytes "Command(\"" ++ (escape (commandName s a e) ++ bytes "\")")
+
+-- the places of a command's name lie in a body of n bytes
+abbrev pub Inside : ℕ → Undefined → Type 0
+Inside n Undefined.EOF = Unit {0}
+Inside n Undefined.End = Unit {0}
+Inside n Undefined.Right = Unit {0}
+Inside n Undefined.RBrace = Unit {0}
+Inside n Undefined.Underscore = Unit {0}
+Inside n Undefined.Circumflex = Unit {0}
+Inside n (Undefined.Command a e) = (a ≤ e) × (e ≤ n)
