@@ -22,15 +22,13 @@ isDigit c = leb (code "0") c && leb c (code "9")
 abbrev pub isAlphabetic : ℕ → Bool
 isAlphabetic c = leb (code "a") c && leb c (code "z") || leb (code "A") c && leb c (code "Z")
 
--- how many bytes of whitespace stand at the head
-unfoldable pub skipWhitespace : List ℕ → ℕ
-skipWhitespace [] = 0
-skipWhitespace (b ∷ l) = elim (isWhitespace b) [ true ↦ suc (skipWhitespace l) | false ↦ 0 ]
+-- how many bytes at the head pass the test
+unfoldable pub run : (ℕ → Bool) → List ℕ → ℕ
+run test [] = 0
+run test (b ∷ l) = elim (test b) [ true ↦ suc (run test l) | false ↦ 0 ]
 
--- how many ASCII letters stand at the head
-unfoldable pub alphabeticRun : List ℕ → ℕ
-alphabeticRun [] = 0
-alphabeticRun (b ∷ l) = elim (isAlphabetic b) [ true ↦ suc (alphabeticRun l) | false ↦ 0 ]
+abbrev pub skipWhitespace : List ℕ → ℕ
+skipWhitespace l = run isWhitespace l
 
 -- how many bytes of a number stand at the head: digits, and a period unless there was one
 unfoldable pub readNumber : Bool → List ℕ → ℕ
@@ -43,7 +41,7 @@ readNumber hasPeriod (b ∷ l) =
 
 -- how many bytes of a command's name stand at the head: a run of ASCII letters, or one character of any other kind
 unfoldable pub nameLength : List ℕ → ℕ
-nameLength l = elim (isAlphabetic (codePoint l .code)) [ true ↦ alphabeticRun l | false ↦ codePoint l .width ]
+nameLength l = elim (isAlphabetic (codePoint l .code)) [ true ↦ run isAlphabetic l | false ↦ codePoint l .width ]
 
 -- the characters that are a token each
 infix 70 _=>_
