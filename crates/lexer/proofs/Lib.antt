@@ -1,1 +1,5 @@
+pub mod ClassLaws
+pub mod NameLaws
+pub mod NextLaws
 pub mod RunLaws
+pub mod TokenLaws

@@ -12,12 +12,12 @@ use Rattle.token.specs.declared.Token.{Token}
 use Rattle.token.specs.Texts.{text}
 use Rattle.token.specs.Examples.{token-opens}
 use Rattle.lexer.specs.declared.Lexeme.{Lexeme}
-use Rattle.lexer.specs.Lex.{run, readNumber, nameLength, punctuation, letter, ofCharacter, lexeme, readCommand, assigns, tokenAt, nextToken}
+use Rattle.lexer.specs.Lex.{run, readNumber, nameLength, punctuation, letter, ofCharacter, lexeme, readCommand, numberAt, assigns, tokenAt, nextToken}
 use Rattle.lexer.specs.Letters.{lettersWithin, letters, encodeAll}
 
 -- whoever unfolds this unfolds all definitions of this crate, as an example has to
 unfoldable pub lexer-opens : Unit {0}
-unfolding run readNumber nameLength punctuation letter ofCharacter readCommand assigns tokenAt nextToken lettersWithin letters encodeAll
+unfolding run readNumber nameLength punctuation letter ofCharacter readCommand numberAt assigns tokenAt nextToken lettersWithin letters encodeAll
 lexer-opens = tt
 
 -- the next k tokens of the body s from `at` on

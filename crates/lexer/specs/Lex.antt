@@ -93,6 +93,12 @@ readCommand at l =
     let e : ℕ = a + nameLength l in
     lexeme (fromCommand (take (nameLength l) l) (Token.Command a e)) at e
 
+-- the number whose first digit is at `at`, the head of l
+unfoldable pub numberAt : ℕ → List ℕ → Lexeme
+numberAt at l =
+    let e : ℕ = at + readNumber false l in
+    lexeme (Token.Number at e) at e
+
 -- the head is a colon, and an equals sign follows it
 unfoldable pub assigns : List ℕ → Bool
 assigns [] = false
@@ -110,7 +116,7 @@ tokenAt at l =
             | true ↦ readCommand at (drop 1 l)
             | false ↦
                 elim (isDigit c) [
-                  | true ↦ lexeme (Token.Number at (at + readNumber false l)) at (at + readNumber false l)
+                  | true ↦ numberAt at l
                   | false ↦ lexeme (ofCharacter punctuation c) at (at + codePoint l .width)
                 ]
           ]

@@ -1,2 +1,6 @@
+pub mod Agree
 pub mod DebugLaws
+pub mod Ordered
+pub mod Packed
+pub mod Spelled
 pub mod TextsLaws

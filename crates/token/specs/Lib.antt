@@ -4,4 +4,6 @@ pub mod Arms
 pub mod Command
 pub mod Roles
 pub mod Debug
+pub mod Table
+pub mod Key
 pub mod Examples

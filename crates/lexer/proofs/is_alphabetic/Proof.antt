@@ -1,6 +1,8 @@
 -- `lexer::is_alphabetic` meets its contract.
 -- Assumes nothing.
-use borrow.Author.Tests.{le-leb, lt-leb}
+use mathlib.Core.Path.{sym}
+use Rattle.lexer.proofs.ClassLaws.{Class, upper, lower, amid, above}
+use borrow.Author.Tests.{lt-leb}
 use borrow.Author.Needs.{needs}
 use native.Mathlib.Omega.{arith}
 use Rattle.lexer.proofs.is_alphabetic.Statement.{statement}
@@ -9,12 +11,11 @@ use Rattle.lexer.proofs.is_alphabetic.Reads as reads
 use Rattle.lexer.proofs.is_alphabetic.Lts as lts
 
 returns : tie.Need-returns
-returns c =
-    simp (lt-leb 97 ((c .before .before .args) .b) (omega arith), le-leb 65 ((c .before .before .args) .b) (omega arith), le-leb ((c .before .before .args) .b) 90 (omega arith))
+returns c = sym (upper ((c .before .before .args) .b) (omega arith) (omega arith) .alphabetic)
 
 returns-2 : tie.Need-returns-2
 returns-2 c =
-    simp (le-leb 97 ((c .before .before .before .before .args) .b) (omega arith), le-leb ((c .before .before .before .before .args) .b) 122 (omega arith))
+    sym (lower ((c .before .before .before .before .args) .b) (omega arith) (omega arith) .alphabetic)
 
 returns-3 : tie.Need-returns-3
 returns-3 c =
@@ -22,11 +23,10 @@ returns-3 c =
 
 returns-4 : tie.Need-returns-4
 returns-4 c =
-    simp (lt-leb 97 ((c .before .before .before .args) .b) (omega arith), le-leb 65 ((c .before .before .before .args) .b) (omega arith), lt-leb ((c .before .before .before .args) .b) 90 (omega arith))
+    sym (amid ((c .before .before .before .args) .b) (omega arith) (omega arith) .alphabetic)
 
 returns-5 : tie.Need-returns-5
-returns-5 c =
-    simp (le-leb 97 ((c .before .before .before .before .args) .b) (omega arith), lt-leb ((c .before .before .before .before .args) .b) 122 (omega arith), le-leb 65 ((c .before .before .before .before .args) .b) (omega arith), lt-leb ((c .before .before .before .before .args) .b) 90 (omega arith))
+returns-5 c = sym (above ((c .before .before .before .before .args) .b) (omega arith) .alphabetic)
 
 pub is-alphabetic-spec : {M : Type 1} → statement M
 is-alphabetic-spec = tie.close (tie.spec returns returns-2 returns-3 returns-4 returns-5)

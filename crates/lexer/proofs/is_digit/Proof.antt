@@ -1,6 +1,7 @@
 -- `lexer::is_digit` meets its contract.
 -- Assumes nothing.
-use borrow.Author.Tests.{le-leb, lt-leb}
+use mathlib.Core.Path.{sym}
+use borrow.Author.Tests.{lt-leb, le-leb}
 use borrow.Author.Needs.{needs}
 use native.Mathlib.Omega.{arith}
 use Rattle.lexer.proofs.is_digit.Statement.{statement}
