@@ -136,7 +136,7 @@ def proof(fn, uses, before, unfolded, definition, count, rest):
 
 def proofs(table):
     n = len(table)
-    specs, laws = "Rattle.token.specs.", "Rattle.token.proofs."
+    specs, laws = "Rattle.token.specs.", "Rattle.text.proofs."
     path, entries, omega = ("mathlib.Core.Path", "sym, ap"), (specs + "Table", "size, entries"), ("native.Mathlib.Omega", "arith")
     past = "absurd (omega (arith, past size _ (c .match .rest)))"
     for fn, at in WORDS:
