@@ -10,7 +10,10 @@ use Rattle.attribute.specs.Names.{attribute-opens}
 use Rattle.token.specs.declared.Undefined.{Undefined}
 use Rattle.token.specs.Examples.{token-opens}
 use Rattle.lexer.specs.Examples.{lexer-opens}
-use Rattle.ast.specs.Tree.{Leaf, One, Two, Node, Nodes, empty, _then_, snoc, setLeaf, setVariant}
+use Rattle.ast.specs.declared.Leaf.{Leaf}
+use Rattle.ast.specs.declared.One.{One}
+use Rattle.ast.specs.declared.Two.{Two}
+use Rattle.ast.specs.Tree.{Node, Nodes, empty, _then_, snoc, setLeaf, setVariant}
 use Rattle.ast.specs.Print.{fixedText, widthText, letterText, stretchedText, variantText, letterMarkup, operatorMarkup, parseError, printLeaf, slashLeaf, slash, displayText, printOne, printTwo, printThree, cellLeaf, cell, print}
 
 -- whoever unfolds this unfolds all definitions of this crate, as an example has to
@@ -19,7 +22,7 @@ unfolding snoc setLeaf setVariant fixedText widthText letterText stretchedText v
 ast-opens = tt
 
 -- the Debug text of an unknown command, here a quote and a backslash at the body's end, is escaped twice
-undefined-twice : print (bytes "\\\"\\") (Node.row ((Node.leaf (Leaf.undefined (Undefined.Command 1 2))) then ((Node.leaf (Leaf.undefined (Undefined.Command 3 3))) then empty)))
+undefined-twice : print (bytes "\\\"\\") (Node.row ((Node.leaf (Leaf.Undefined (Undefined.Command 1 2))) then ((Node.leaf (Leaf.Undefined (Undefined.Command 3 3))) then empty)))
     ≡ bytes "<mrow><mtext>[PARSE ERROR: Undefined(\"Command(\\\"\\\\\\\"\\\")\")]</mtext><mtext>[PARSE ERROR: Undefined(\"Command(\\\"\\\\0\\\")\")]</mtext></mrow>"
 unfolding text-opens attribute-opens token-opens lexer-opens ast-opens
 undefined-twice = refl

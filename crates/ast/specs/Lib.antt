@@ -1,3 +1,6 @@
+pub mod Shape
+pub mod Store
 pub mod Tree
+pub mod Held
 pub mod Print
 pub mod Examples

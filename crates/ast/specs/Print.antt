@@ -14,7 +14,12 @@ use Rattle.token.specs.declared.Undefined.{Undefined}
 use Rattle.token.specs.Texts.{textOf, widthOf}
 use Rattle.token.specs.Debug.{escape, debug}
 use Rattle.lexer.specs.Letters.{letters, encodeAll}
-use Rattle.ast.specs.Tree.{Stretched, Leaf, One, Two, Three, Node, Nodes, empty, _then_}
+use Rattle.ast.specs.declared.Stretched.{Stretched}
+use Rattle.ast.specs.declared.Leaf.{Leaf}
+use Rattle.ast.specs.declared.One.{One}
+use Rattle.ast.specs.declared.Two.{Two}
+use Rattle.ast.specs.declared.Three.{Three}
+use Rattle.ast.specs.Tree.{Node, Nodes, empty, _then_}
 
 -- the bytes of a fixed text, of a width, and of the letters of the body s from a up to e
 unfoldable pub fixedText : ℕ → List ℕ
@@ -27,8 +32,8 @@ unfoldable pub letterText : List ℕ → ℕ → ℕ → List ℕ
 letterText s a e = encodeAll (letters (part a e s))
 
 unfoldable pub stretchedText : Stretched → List ℕ
-stretchedText (Stretched.character c) = encode c
-stretchedText (Stretched.fixed t) = fixedText t
+stretchedText (Stretched.Character c) = encode c
+stretchedText (Stretched.Fixed t) = fixedText t
 
 unfoldable pub variantText : Variant → List ℕ
 variantText v = bytes " mathvariant=\"" ++ bytes (variant v) ++ bytes "\""
@@ -51,36 +56,36 @@ unfoldable pub parseError : List ℕ → List ℕ
 parseError d = bytes "<mtext>[PARSE ERROR: " ++ d ++ bytes "]</mtext>"
 
 unfoldable pub printLeaf : List ℕ → Leaf → List ℕ
-printLeaf s (Leaf.number a e) = bytes "<mn>" ++ part a e s ++ bytes "</mn>"
-printLeaf s (Leaf.letter c v) = letterMarkup c v
-printLeaf s (Leaf.operator c) = operatorMarkup c
-printLeaf s (Leaf.function t) = bytes "<mi>" ++ fixedText t ++ bytes "</mi>"
-printLeaf s (Leaf.functionName a e) = bytes "<mi>" ++ letterText s a e ++ bytes "</mi>"
-printLeaf s (Leaf.space w) = bytes "<mspace width=\"" ++ widthText w ++ bytes "em\"/>"
-printLeaf s (Leaf.strechedOp o) = bytes "<mo stretchy=\"true\">" ++ stretchedText o ++ bytes "</mo>"
-printLeaf s (Leaf.otherOperator t) = bytes "<mo>" ++ fixedText t ++ bytes "</mo>"
-printLeaf s (Leaf.sizedParen z t) =
+printLeaf s (Leaf.Number a e) = bytes "<mn>" ++ part a e s ++ bytes "</mn>"
+printLeaf s (Leaf.Letter c v) = letterMarkup c v
+printLeaf s (Leaf.Operator c) = operatorMarkup c
+printLeaf s (Leaf.Function t) = bytes "<mi>" ++ fixedText t ++ bytes "</mi>"
+printLeaf s (Leaf.FunctionName a e) = bytes "<mi>" ++ letterText s a e ++ bytes "</mi>"
+printLeaf s (Leaf.Space w) = bytes "<mspace width=\"" ++ widthText w ++ bytes "em\"/>"
+printLeaf s (Leaf.StrechedOp o) = bytes "<mo stretchy=\"true\">" ++ stretchedText o ++ bytes "</mo>"
+printLeaf s (Leaf.OtherOperator t) = bytes "<mo>" ++ fixedText t ++ bytes "</mo>"
+printLeaf s (Leaf.SizedParen z t) =
     bytes "<mrow><mo maxsize=\"" ++ fixedText z ++ bytes "\" minsize=\"" ++ fixedText z ++ bytes "\">" ++ fixedText t ++ bytes "</mro></mrow>"
-printLeaf s (Leaf.text a e) = bytes "<mtext>" ++ letterText s a e ++ bytes "</mtext>"
-printLeaf s Leaf.ampersand = parseError (bytes "Ampersand")
-printLeaf s Leaf.newLine = parseError (bytes "NewLine")
-printLeaf s (Leaf.undefined u) = parseError (bytes "Undefined(\"" ++ escape (debug s u) ++ bytes "\")")
+printLeaf s (Leaf.Text a e) = bytes "<mtext>" ++ letterText s a e ++ bytes "</mtext>"
+printLeaf s Leaf.Ampersand = parseError (bytes "Ampersand")
+printLeaf s Leaf.NewLine = parseError (bytes "NewLine")
+printLeaf s (Leaf.Undefined u) = parseError (bytes "Undefined(\"" ++ escape (debug s u) ++ bytes "\")")
 
 -- a letter or an operator under a slash; m is the leaf's own markup
 unfoldable pub slashLeaf : Leaf → List ℕ → List ℕ
-slashLeaf (Leaf.number a e) m = m
-slashLeaf (Leaf.letter c v) m = bytes "<mi" ++ variantText v ++ bytes ">" ++ encode c ++ bytes "&#x0338;</mi>"
-slashLeaf (Leaf.operator c) m = bytes "<mo>" ++ encode c ++ bytes "&#x0338;</mo>"
-slashLeaf (Leaf.function t) m = m
-slashLeaf (Leaf.functionName a e) m = m
-slashLeaf (Leaf.space w) m = m
-slashLeaf (Leaf.strechedOp o) m = m
-slashLeaf (Leaf.otherOperator t) m = m
-slashLeaf (Leaf.sizedParen z t) m = m
-slashLeaf (Leaf.text a e) m = m
-slashLeaf Leaf.ampersand m = m
-slashLeaf Leaf.newLine m = m
-slashLeaf (Leaf.undefined u) m = m
+slashLeaf (Leaf.Number a e) m = m
+slashLeaf (Leaf.Letter c v) m = bytes "<mi" ++ variantText v ++ bytes ">" ++ encode c ++ bytes "&#x0338;</mi>"
+slashLeaf (Leaf.Operator c) m = bytes "<mo>" ++ encode c ++ bytes "&#x0338;</mo>"
+slashLeaf (Leaf.Function t) m = m
+slashLeaf (Leaf.FunctionName a e) m = m
+slashLeaf (Leaf.Space w) m = m
+slashLeaf (Leaf.StrechedOp o) m = m
+slashLeaf (Leaf.OtherOperator t) m = m
+slashLeaf (Leaf.SizedParen z t) m = m
+slashLeaf (Leaf.Text a e) m = m
+slashLeaf Leaf.Ampersand m = m
+slashLeaf Leaf.NewLine m = m
+slashLeaf (Leaf.Undefined u) m = m
 
 -- any other node under a slash is its own markup
 unfoldable pub slash : Node → List ℕ → List ℕ
@@ -97,45 +102,45 @@ displayText DisplayStyle.Inline = bytes "false"
 
 -- a node with one part a, of which m is the markup
 unfoldable pub printOne : One → Node → List ℕ → List ℕ
-printOne (One.overOp c acc) a m =
+printOne (One.OverOp c acc) a m =
     bytes "<mover>" ++ m ++ bytes "<mo accent=\"" ++ bytes (accent acc) ++ bytes "\">" ++ encode c ++ bytes "</mo></mover>"
-printOne (One.underOp c acc) a m =
+printOne (One.UnderOp c acc) a m =
     bytes "<munder>" ++ m ++ bytes "<mo accent=\"" ++ bytes (accent acc) ++ bytes "\">" ++ encode c ++ bytes "</mo></munder>"
-printOne One.sqrt a m = bytes "<msqrt>" ++ m ++ bytes "</msqrt>"
-printOne (One.fenced t u) a m =
+printOne One.Sqrt a m = bytes "<msqrt>" ++ m ++ bytes "</msqrt>"
+printOne (One.Fenced t u) a m =
     bytes "<mrow><mo stretchy=\"true\" form=\"prefix\">" ++ fixedText t ++ bytes "</mo>" ++ m ++ bytes "<mo stretchy=\"true\" form=\"postfix\">" ++ fixedText u ++ bytes "</mo></mrow>"
-printOne One.slashed a m = slash a m
-printOne (One.style d) a m = bytes "<mstyle displaystyle=\"" ++ displayText d ++ bytes "\">" ++ m ++ bytes "</mstyle>"
+printOne One.Slashed a m = slash a m
+printOne (One.Style d) a m = bytes "<mstyle displaystyle=\"" ++ displayText d ++ bytes "\">" ++ m ++ bytes "</mstyle>"
 
 -- a node with two parts, of which m and n are the markups
 unfoldable pub printTwo : Two → List ℕ → List ℕ → List ℕ
-printTwo Two.subscript m n = bytes "<msub>" ++ m ++ n ++ bytes "</msub>"
-printTwo Two.superscript m n = bytes "<msup>" ++ m ++ n ++ bytes "</msup>"
-printTwo Two.overset m n = bytes "<mover>" ++ m ++ n ++ bytes "</mover>"
-printTwo Two.underset m n = bytes "<munder>" ++ m ++ n ++ bytes "</munder>"
-printTwo Two.under m n = bytes "<munder>" ++ m ++ n ++ bytes "</munder>"
-printTwo Two.root m n = bytes "<mroot>" ++ m ++ n ++ bytes "</mroot>"
-printTwo (Two.frac lt) m n = bytes "<mfrac" ++ bytes (lineThickness lt) ++ bytes ">" ++ m ++ n ++ bytes "</mfrac>"
+printTwo Two.Subscript m n = bytes "<msub>" ++ m ++ n ++ bytes "</msub>"
+printTwo Two.Superscript m n = bytes "<msup>" ++ m ++ n ++ bytes "</msup>"
+printTwo Two.Overset m n = bytes "<mover>" ++ m ++ n ++ bytes "</mover>"
+printTwo Two.Underset m n = bytes "<munder>" ++ m ++ n ++ bytes "</munder>"
+printTwo Two.Under m n = bytes "<munder>" ++ m ++ n ++ bytes "</munder>"
+printTwo Two.Root m n = bytes "<mroot>" ++ m ++ n ++ bytes "</mroot>"
+printTwo (Two.Frac lt) m n = bytes "<mfrac" ++ bytes (lineThickness lt) ++ bytes ">" ++ m ++ n ++ bytes "</mfrac>"
 
 unfoldable pub printThree : Three → List ℕ → List ℕ → List ℕ → List ℕ
-printThree Three.subSup m n o = bytes "<msubsup>" ++ m ++ n ++ o ++ bytes "</msubsup>"
-printThree Three.underOver m n o = bytes "<munderover>" ++ m ++ n ++ o ++ bytes "</munderover>"
+printThree Three.SubSup m n o = bytes "<msubsup>" ++ m ++ n ++ o ++ bytes "</msubsup>"
+printThree Three.UnderOver m n o = bytes "<munderover>" ++ m ++ n ++ o ++ bytes "</munderover>"
 
 -- a leaf that is a direct part of a matrix: an ampersand begins a cell, a new line a row; m is the leaf's own markup
 unfoldable pub cellLeaf : Leaf → List ℕ → List ℕ
-cellLeaf (Leaf.number a e) m = m
-cellLeaf (Leaf.letter c v) m = m
-cellLeaf (Leaf.operator c) m = m
-cellLeaf (Leaf.function t) m = m
-cellLeaf (Leaf.functionName a e) m = m
-cellLeaf (Leaf.space w) m = m
-cellLeaf (Leaf.strechedOp o) m = m
-cellLeaf (Leaf.otherOperator t) m = m
-cellLeaf (Leaf.sizedParen z t) m = m
-cellLeaf (Leaf.text a e) m = m
-cellLeaf Leaf.ampersand m = bytes "</mtd><mtd>"
-cellLeaf Leaf.newLine m = bytes "</mtd></mtr><mtr><mtd>"
-cellLeaf (Leaf.undefined u) m = m
+cellLeaf (Leaf.Number a e) m = m
+cellLeaf (Leaf.Letter c v) m = m
+cellLeaf (Leaf.Operator c) m = m
+cellLeaf (Leaf.Function t) m = m
+cellLeaf (Leaf.FunctionName a e) m = m
+cellLeaf (Leaf.Space w) m = m
+cellLeaf (Leaf.StrechedOp o) m = m
+cellLeaf (Leaf.OtherOperator t) m = m
+cellLeaf (Leaf.SizedParen z t) m = m
+cellLeaf (Leaf.Text a e) m = m
+cellLeaf Leaf.Ampersand m = bytes "</mtd><mtd>"
+cellLeaf Leaf.NewLine m = bytes "</mtd></mtr><mtr><mtd>"
+cellLeaf (Leaf.Undefined u) m = m
 
 unfoldable pub cell : Node → List ℕ → List ℕ
 cell (Node.leaf l) m = cellLeaf l m

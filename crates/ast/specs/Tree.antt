@@ -1,57 +1,11 @@
 -- The Rust's `Node`, its cases grouped by the number of parts, which stand in the order in which they are printed.
 -- Assumes nothing.
-use Prim.Native.Nat.{ℕ}
 use Rattle.attribute.specs.declared.Variant.{Variant}
-use Rattle.attribute.specs.declared.Accent.{Accent}
-use Rattle.attribute.specs.declared.LineThickness.{LineThickness}
 use Rattle.attribute.specs.declared.ColumnAlign.{ColumnAlign}
-use Rattle.attribute.specs.declared.DisplayStyle.{DisplayStyle}
-use Rattle.token.specs.declared.Undefined.{Undefined}
-
--- what a stretched operator shows: the character of an Operator, or the text of an OtherOperator
-pub data Stretched : Type 0 where
-  character : ℕ → Stretched
-  fixed : ℕ → Stretched
-
--- the nodes with no part: c is a code point, t and z are numbers of fixed texts, w of a width, and a and e places in the body
-pub data Leaf : Type 0 where
-  number : (a e : ℕ) → Leaf
-  letter : (c : ℕ) → Variant → Leaf
-  operator : (c : ℕ) → Leaf
-  function : (t : ℕ) → Leaf
-  functionName : (a e : ℕ) → Leaf
-  space : (w : ℕ) → Leaf
-  strechedOp : Stretched → Leaf
-  otherOperator : (t : ℕ) → Leaf
-  sizedParen : (z t : ℕ) → Leaf
-  text : (a e : ℕ) → Leaf
-  ampersand : Leaf
-  newLine : Leaf
-  undefined : Undefined → Leaf
-
--- the nodes with one part
-pub data One : Type 0 where
-  overOp : (c : ℕ) → Accent → One
-  underOp : (c : ℕ) → Accent → One
-  sqrt : One
-  fenced : (t u : ℕ) → One
-  slashed : One
-  style : DisplayStyle → One
-
--- the nodes with two parts: a root is the Rust's Sqrt with a degree, and its content stands first
-pub data Two : Type 0 where
-  subscript : Two
-  superscript : Two
-  overset : Two
-  underset : Two
-  under : Two
-  root : Two
-  frac : LineThickness → Two
-
--- the nodes with three parts
-pub data Three : Type 0 where
-  subSup : Three
-  underOver : Three
+use Rattle.ast.specs.declared.Leaf.{Leaf}
+use Rattle.ast.specs.declared.One.{One}
+use Rattle.ast.specs.declared.Two.{Two}
+use Rattle.ast.specs.declared.Three.{Three}
 
 mutual
   pub data Node : Type 0 where
@@ -74,19 +28,19 @@ snoc (m then ns) n = m then (snoc ns n)
 
 -- a letter with the variant v
 unfoldable pub setLeaf : Variant → Leaf → Leaf
-setLeaf v (number a e) = number a e
-setLeaf v (letter c u) = letter c v
-setLeaf v (operator c) = operator c
-setLeaf v (function t) = function t
-setLeaf v (functionName a e) = functionName a e
-setLeaf v (space w) = space w
-setLeaf v (strechedOp o) = strechedOp o
-setLeaf v (otherOperator t) = otherOperator t
-setLeaf v (sizedParen z t) = sizedParen z t
-setLeaf v (text a e) = text a e
-setLeaf v ampersand = ampersand
-setLeaf v newLine = newLine
-setLeaf v (undefined u) = undefined u
+setLeaf v (Leaf.Number a e) = Leaf.Number a e
+setLeaf v (Leaf.Letter c u) = Leaf.Letter c v
+setLeaf v (Leaf.Operator c) = Leaf.Operator c
+setLeaf v (Leaf.Function t) = Leaf.Function t
+setLeaf v (Leaf.FunctionName a e) = Leaf.FunctionName a e
+setLeaf v (Leaf.Space w) = Leaf.Space w
+setLeaf v (Leaf.StrechedOp o) = Leaf.StrechedOp o
+setLeaf v (Leaf.OtherOperator t) = Leaf.OtherOperator t
+setLeaf v (Leaf.SizedParen z t) = Leaf.SizedParen z t
+setLeaf v (Leaf.Text a e) = Leaf.Text a e
+setLeaf v Leaf.Ampersand = Leaf.Ampersand
+setLeaf v Leaf.NewLine = Leaf.NewLine
+setLeaf v (Leaf.Undefined u) = Leaf.Undefined u
 
 -- the Rust's `set_variant`: letters only, through rows inside rows
 unfoldable mutual

@@ -1,4 +1,6 @@
 // The attributes of MathML elements: the Rust's attribute.rs, and `DisplayStyle` of its lib.rs.
+pub mod codes;
+
 use text::put::put;
 ghost use mathlib.Core.Path.{_≡_};
 ghost use lib.ListN.{length};

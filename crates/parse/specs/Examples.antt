@@ -13,7 +13,9 @@ use Rattle.error.specs.declared.Refusal.{Refusal}
 use Rattle.token.specs.declared.Undefined.{Undefined}
 use Rattle.token.specs.Examples.{token-opens}
 use Rattle.lexer.specs.Examples.{lexer-opens}
-use Rattle.ast.specs.Tree.{Leaf, Two, Node, leaf, two, Nodes, empty, _then_}
+use Rattle.ast.specs.declared.Leaf.{Leaf}
+use Rattle.ast.specs.declared.Two.{Two}
+use Rattle.ast.specs.Tree.{Node, leaf, two, Nodes, empty, _then_}
 use Rattle.ast.specs.Examples.{ast-opens}
 use Rattle.parse.specs.State.{startsWithDigit, following, next, new, pastLetters, parseText}
 use Rattle.parse.specs.Environment.{environments, environment}
@@ -40,18 +42,18 @@ records (refused r) = 0
 
 -- a digit counts as a number of one digit only directly behind the command
 digit-behind : map (λ s. read (parse 256 (bytes s))) ("\\frac12" ∷ "\\frac 12" ∷ [])
-    ≡ nodes (two (Two.frac LineThickness.Medium) (leaf (Leaf.number 5 6)) (leaf (Leaf.number 6 7)) then empty)
-    ∷ nodes (two (Two.frac LineThickness.Medium) (leaf (Leaf.number 6 8)) (leaf (Leaf.undefined Undefined.EOF)) then empty)
+    ≡ nodes (two (Two.Frac LineThickness.Medium) (leaf (Leaf.Number 5 6)) (leaf (Leaf.Number 6 7)) then empty)
+    ∷ nodes (two (Two.Frac LineThickness.Medium) (leaf (Leaf.Number 6 8)) (leaf (Leaf.Undefined Undefined.EOF)) then empty)
     ∷ []
 unfolding text-opens token-opens lexer-opens ast-opens parse-opens read
 digit-behind = refl
 
 unfoldable pub italic : String → Node
-italic s = leaf (Leaf.letter (getD (bytes s) 0 0) Variant.Italic)
+italic s = leaf (Leaf.Letter (getD (bytes s) 0 0) Variant.Italic)
 
 -- a NUL that is an operand is passed, and reading goes on behind it
 nul-operand : read (parse 256 (bytes "x_\0b"))
-    ≡ nodes (two Two.subscript (italic "x") (leaf (Leaf.undefined Undefined.EOF)) then italic "b" then empty)
+    ≡ nodes (two Two.Subscript (italic "x") (leaf (Leaf.Undefined Undefined.EOF)) then italic "b" then empty)
 unfolding text-opens token-opens lexer-opens ast-opens parse-opens read italic
 nul-operand = refl
 

@@ -18,7 +18,12 @@ use Rattle.token.specs.declared.Binomial.{Binomial}
 use Rattle.token.specs.declared.Undefined.{Undefined}
 use Rattle.token.specs.Texts.{text}
 use Rattle.token.specs.Roles.{parenOf, fenceOf}
-use Rattle.ast.specs.Tree.{Stretched, Leaf, One, Two, Three, Node, leaf, one, two, three, row, matrix, Nodes, empty, _then_, snoc, setVariant}
+use Rattle.ast.specs.declared.Stretched.{Stretched}
+use Rattle.ast.specs.declared.Leaf.{Leaf}
+use Rattle.ast.specs.declared.One.{One}
+use Rattle.ast.specs.declared.Two.{Two}
+use Rattle.ast.specs.declared.Three.{Three}
+use Rattle.ast.specs.Tree.{Node, leaf, one, two, three, row, matrix, Nodes, empty, _then_, snoc, setVariant}
 use Rattle.parse.specs.declared.Parser.{Parser}
 use Rattle.parse.specs.State.{next, new, curIs, peekIs, TextRead, parseText}
 use Rattle.parse.specs.Environment.{Environment, environment}
@@ -78,10 +83,10 @@ parseSqrt node s p =
       | true ↦ do
         (degree, q) ← parseGroup node s Mark.RBracket begin
         (content, r) ← node (next s q)
-        build 1 (two Two.root content degree) r
+        build 1 (two Two.Root content degree) r
       | false ↦ do
         (content, r) ← node begin
-        build 1 (one One.sqrt content) r
+        build 1 (one One.Sqrt content) r
     ]
 
 -- an arm with two operands, of which `finish` makes the node
@@ -93,11 +98,11 @@ parseTwo node s finish p = do
 
 -- a fraction without a line, between parentheses
 unfoldable pub binomial : Node → Node → Node
-binomial a b = one (One.fenced (text "(") (text ")")) (two (Two.frac LineThickness.Zero) a b)
+binomial a b = one (One.Fenced (text "(") (text ")")) (two (Two.Frac LineThickness.Zero) a b)
 
 unfoldable pub finishBinom : Binomial → Node → Node → Reads
 finishBinom Binomial.Plain a b p = build 2 (binomial a b) p
-finishBinom (Binomial.Styled display) a b p = build 4 (one (One.style display) (row (binomial a b then empty))) p
+finishBinom (Binomial.Styled display) a b p = build 4 (one (One.Style display) (row (binomial a b then empty))) p
 
 -- an arm with one operand, of which `kind` makes the node
 unfoldable pub parseOne : Reads → List ℕ → One → Reads
@@ -112,8 +117,8 @@ parseBrace single s kind mark x p = do
   elim (peekIs q mark) [
     | true ↦ do
       (expl, r) ← single (next s (next s q))
-      build 3 (two kind target (two kind (leaf (Leaf.operator x)) expl)) r
-    | false ↦ build 2 (two kind target (leaf (Leaf.operator x))) q
+      build 3 (two kind target (two kind (leaf (Leaf.Operator x)) expl)) r
+    | false ↦ build 2 (two kind target (leaf (Leaf.Operator x))) q
   ]
 
 -- an operator with what stands below and above it, in either order: `both`, `below` and `above` make the node
@@ -144,20 +149,20 @@ parseLimits single s both below above target p =
 
 unfoldable pub parseBigOp : Reads → List ℕ → ℕ → Reads
 parseBigOp single s c p =
-    let op : Node = leaf (Leaf.operator c) in
+    let op : Node = leaf (Leaf.Operator c) in
     parseLimits single s
-    (λ under over. build 2 (three Three.underOver op under over))
-    (λ under. build 2 (two Two.under op under))
-    (λ over. build 1 (one (One.overOp c Accent.False) over))
+    (λ under over. build 2 (three Three.UnderOver op under over))
+    (λ under. build 2 (two Two.Under op under))
+    (λ over. build 1 (one (One.OverOp c Accent.False) over))
     op p
 
 unfoldable pub parseIntegral : Reads → List ℕ → ℕ → Reads
 parseIntegral single s c p =
-    let op : Node = leaf (Leaf.operator c) in
+    let op : Node = leaf (Leaf.Operator c) in
     parseLimits single s
-    (λ sub sup. build 2 (three Three.subSup op sub sup))
-    (λ sub. build 2 (two Two.subscript op sub))
-    (λ sup. build 2 (two Two.superscript op sup))
+    (λ sub sup. build 2 (three Three.SubSup op sub sup))
+    (λ sub. build 2 (two Two.Subscript op sub))
+    (λ sup. build 2 (two Two.Superscript op sup))
     op p
 
 unfoldable pub parseLim : Reads → List ℕ → ℕ → Reads
@@ -165,15 +170,15 @@ parseLim single s t p =
     elim (peekIs p Mark.Underscore) [
       | true ↦ do
         (under, q) ← single (next s (next s p))
-        build 2 (two Two.under (leaf (Leaf.function t)) under) q
-      | false ↦ build 1 (leaf (Leaf.function t)) p
+        build 2 (two Two.Under (leaf (Leaf.Function t)) under) q
+      | false ↦ build 1 (leaf (Leaf.Function t)) p
     ]
 
 -- the braces of a slashed node are passed unseen
 unfoldable pub parseSlashed : Reads → List ℕ → Reads
 parseSlashed node s p = do
   (n, q) ← node (next s (next s p))
-  build 1 (one One.slashed n) (next s q)
+  build 1 (one One.Slashed n) (next s q)
 
 unfoldable pub parseStyle : Reads → List ℕ → Variant → Reads
 parseStyle node s v p = do
@@ -190,23 +195,23 @@ parseLeft node s p =
     withFence begin (λ open′. do
       (content, q) ← parseGroup node s Mark.Right begin
       let after = next s q
-      withFence after (λ close. build 1 (one (One.fenced open′ close) content) after))
+      withFence after (λ close. build 1 (one (One.Fenced open′ close) content) after))
 
 -- what `\middle` makes of its operand
 unfoldable pub stretchLeaf : Leaf → Option Stretched
-stretchLeaf (Leaf.number a e) = none
-stretchLeaf (Leaf.letter c v) = none
-stretchLeaf (Leaf.operator c) = some (Stretched.character c)
-stretchLeaf (Leaf.function t) = none
-stretchLeaf (Leaf.functionName a e) = none
-stretchLeaf (Leaf.space w) = none
-stretchLeaf (Leaf.strechedOp o) = none
-stretchLeaf (Leaf.otherOperator t) = some (Stretched.fixed t)
-stretchLeaf (Leaf.sizedParen z t) = none
-stretchLeaf (Leaf.text a e) = none
-stretchLeaf Leaf.ampersand = none
-stretchLeaf Leaf.newLine = none
-stretchLeaf (Leaf.undefined u) = none
+stretchLeaf (Leaf.Number a e) = none
+stretchLeaf (Leaf.Letter c v) = none
+stretchLeaf (Leaf.Operator c) = some (Stretched.Character c)
+stretchLeaf (Leaf.Function t) = none
+stretchLeaf (Leaf.FunctionName a e) = none
+stretchLeaf (Leaf.Space w) = none
+stretchLeaf (Leaf.StrechedOp o) = none
+stretchLeaf (Leaf.OtherOperator t) = some (Stretched.Fixed t)
+stretchLeaf (Leaf.SizedParen z t) = none
+stretchLeaf (Leaf.Text a e) = none
+stretchLeaf Leaf.Ampersand = none
+stretchLeaf Leaf.NewLine = none
+stretchLeaf (Leaf.Undefined u) = none
 
 unfoldable pub stretch : Node → Option Stretched
 stretch (leaf l) = stretchLeaf l
@@ -219,14 +224,14 @@ stretch (matrix align ns) = none
 unfoldable pub parseMiddle : Reads → List ℕ → Reads
 parseMiddle single s p = do
   (n, q) ← single (next s p)
-  elim (stretch n) [ none ↦ refused Refusal.MiddleOperand | some o ↦ build 1 (leaf (Leaf.strechedOp o)) q ]
+  elim (stretch n) [ none ↦ refused Refusal.MiddleOperand | some o ↦ build 1 (leaf (Leaf.StrechedOp o)) q ]
 
 unfoldable pub parseBig : List ℕ → ℕ → Reads
 parseBig s size p =
     let after : Parser = next s p in
     elim (parenOf (after .cur .token)) [
       | none ↦ refused Refusal.UnexpectedToken
-      | some paren ↦ build 1 (leaf (Leaf.sizedParen size paren)) after
+      | some paren ↦ build 1 (leaf (Leaf.SizedParen size paren)) after
     ]
 
 -- a row opened for its nodes, or the one node
@@ -240,7 +245,7 @@ opened (matrix align ns) = matrix align ns then empty
 
 unfoldable pub inEnvironment : Environment → Nodes → Reads
 inEnvironment (Environment.bare align) ns p = build 1 (matrix align ns) p
-inEnvironment (Environment.between t u) ns p = build 2 (one (One.fenced t u) (matrix ColumnAlign.Center ns)) p
+inEnvironment (Environment.between t u) ns p = build 2 (one (One.Fenced t u) (matrix ColumnAlign.Center ns)) p
 
 -- the environment is looked up after its content is read, and the name behind `\end` is passed unseen
 unfoldable pub parseBegin : Reads → List ℕ → Reads
@@ -266,42 +271,42 @@ leafNode l p = build 1 (leaf l) p
 -- ---- parse_single_node without the prime behind it
 
 unfoldable pub parseBare : Reads → Reads → List ℕ → Token → Reads
-parseBare node single s (Token.Number a e) p = leafNode (Leaf.number a e) p
-parseBare node single s (Token.Letter c v) p = leafNode (Leaf.letter c v) p
-parseBare node single s (Token.Operator c) p = leafNode (Leaf.operator c) p
-parseBare node single s (Token.Function t) p = leafNode (Leaf.function t) p
-parseBare node single s (Token.Space w) p = leafNode (Leaf.space w) p
+parseBare node single s (Token.Number a e) p = leafNode (Leaf.Number a e) p
+parseBare node single s (Token.Letter c v) p = leafNode (Leaf.Letter c v) p
+parseBare node single s (Token.Operator c) p = leafNode (Leaf.Operator c) p
+parseBare node single s (Token.Function t) p = leafNode (Leaf.Function t) p
+parseBare node single s (Token.Space w) p = leafNode (Leaf.Space w) p
 parseBare node single s Token.Sqrt p = parseSqrt node s p
-parseBare node single s Token.Frac p = parseTwo node s (λ a b. build 1 (two (Two.frac LineThickness.Medium) a b)) p
+parseBare node single s Token.Frac p = parseTwo node s (λ a b. build 1 (two (Two.Frac LineThickness.Medium) a b)) p
 parseBare node single s (Token.Binom display) p = parseTwo node s (finishBinom display) p
-parseBare node single s (Token.Over c acc) p = parseOne node s (One.overOp c acc) p
-parseBare node single s (Token.Under c acc) p = parseOne node s (One.underOp c acc) p
-parseBare node single s Token.Overset p = parseTwo node s (λ over target. build 1 (two Two.overset target over)) p
-parseBare node single s Token.Underset p = parseTwo node s (λ under target. build 1 (two Two.underset target under)) p
-parseBare node single s (Token.Overbrace x) p = parseBrace single s Two.overset Mark.Circumflex x p
-parseBare node single s (Token.Underbrace x) p = parseBrace single s Two.underset Mark.Underscore x p
+parseBare node single s (Token.Over c acc) p = parseOne node s (One.OverOp c acc) p
+parseBare node single s (Token.Under c acc) p = parseOne node s (One.UnderOp c acc) p
+parseBare node single s Token.Overset p = parseTwo node s (λ over target. build 1 (two Two.Overset target over)) p
+parseBare node single s Token.Underset p = parseTwo node s (λ under target. build 1 (two Two.Underset target under)) p
+parseBare node single s (Token.Overbrace x) p = parseBrace single s Two.Overset Mark.Circumflex x p
+parseBare node single s (Token.Underbrace x) p = parseBrace single s Two.Underset Mark.Underscore x p
 parseBare node single s (Token.BigOp c) p = parseBigOp single s c p
 parseBare node single s (Token.Lim t) p = parseLim single s t p
 parseBare node single s Token.Slashed p = parseSlashed node s p
 parseBare node single s (Token.Style v) p = parseStyle node s v p
 parseBare node single s (Token.Integral c) p = parseIntegral single s c p
 parseBare node single s Token.LBrace p = parseGroup node s Mark.RBrace p
-parseBare node single s (Token.Paren t) p = leafNode (Leaf.otherOperator t) p
+parseBare node single s (Token.Paren t) p = leafNode (Leaf.OtherOperator t) p
 parseBare node single s Token.Left p = parseLeft node s p
 parseBare node single s Token.Middle p = parseMiddle single s p
 parseBare node single s (Token.Big size) p = parseBig s size p
 parseBare node single s Token.Begin p = parseBegin node s p
-parseBare node single s Token.OperatorName p = parseTextLeaf s Leaf.functionName p
-parseBare node single s Token.Text p = parseTextLeaf s Leaf.text p
-parseBare node single s Token.Ampersand p = leafNode Leaf.ampersand p
-parseBare node single s Token.NewLine p = leafNode Leaf.newLine p
-parseBare node single s Token.EOF p = leafNode (Leaf.undefined Undefined.EOF) p
-parseBare node single s Token.End p = leafNode (Leaf.undefined Undefined.End) p
-parseBare node single s Token.Right p = leafNode (Leaf.undefined Undefined.Right) p
-parseBare node single s Token.RBrace p = leafNode (Leaf.undefined Undefined.RBrace) p
-parseBare node single s Token.Underscore p = leafNode (Leaf.undefined Undefined.Underscore) p
-parseBare node single s Token.Circumflex p = leafNode (Leaf.undefined Undefined.Circumflex) p
-parseBare node single s (Token.Command a e) p = leafNode (Leaf.undefined (Undefined.Command a e)) p
+parseBare node single s Token.OperatorName p = parseTextLeaf s Leaf.FunctionName p
+parseBare node single s Token.Text p = parseTextLeaf s Leaf.Text p
+parseBare node single s Token.Ampersand p = leafNode Leaf.Ampersand p
+parseBare node single s Token.NewLine p = leafNode Leaf.NewLine p
+parseBare node single s Token.EOF p = leafNode (Leaf.Undefined Undefined.EOF) p
+parseBare node single s Token.End p = leafNode (Leaf.Undefined Undefined.End) p
+parseBare node single s Token.Right p = leafNode (Leaf.Undefined Undefined.Right) p
+parseBare node single s Token.RBrace p = leafNode (Leaf.Undefined Undefined.RBrace) p
+parseBare node single s Token.Underscore p = leafNode (Leaf.Undefined Undefined.Underscore) p
+parseBare node single s Token.Circumflex p = leafNode (Leaf.Undefined Undefined.Circumflex) p
+parseBare node single s (Token.Command a e) p = leafNode (Leaf.Undefined (Undefined.Command a e)) p
 
 -- ---- parse_single_node and parse_node over the level below
 
@@ -309,7 +314,7 @@ unfoldable pub singleStep : Reads → Reads → List ℕ → Reads
 singleStep node single s p = do
   (n, q) ← parseBare node single s (p .cur .token) p
   elim (peekIs q Mark.Prime) [
-    | true ↦ build 2 (two Two.superscript n (leaf (Leaf.operator (code "′")))) (next s q)
+    | true ↦ build 2 (two Two.Superscript n (leaf (Leaf.Operator (code "′")))) (next s q)
     | false ↦ made n q
   ]
 
@@ -323,8 +328,8 @@ unfoldable pub nodeStep : Reads → Reads → List ℕ → Reads
 nodeStep node single s p = do
   (left, q) ← single p
   elim (peekIs q Mark.Underscore) [
-    | true ↦ script node s Two.subscript left q
-    | false ↦ elim (peekIs q Mark.Circumflex) [ true ↦ script node s Two.superscript left q | false ↦ made left q ]
+    | true ↦ script node s Two.Subscript left q
+    | false ↦ elim (peekIs q Mark.Circumflex) [ true ↦ script node s Two.Superscript left q | false ↦ made left q ]
   ]
 
 -- with no depth left a call is refused, else it has one level less for its own calls

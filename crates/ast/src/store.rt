@@ -1,0 +1,1 @@
+// Records put into a lent store and read from it.
