@@ -1,5 +1,6 @@
 pub mod Shape
 pub mod Store
+pub mod Change
 pub mod Tree
 pub mod Held
 pub mod Print

@@ -1,4 +1,6 @@
 // The lexer: the Rust's lexer.rs, over bytes.
+pub mod letters;
+
 use attribute::Variant;
 use text::code_point;
 use token::Token;

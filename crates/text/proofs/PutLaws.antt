@@ -150,3 +150,20 @@ putting-all p = rw (p .whole, append-nil) (p .puts)
 pub putting-length : {write : Bool} {o₀ o : List ℕ} {at place : ℕ} {total rest : List ℕ} → Room write o₀ at (length total)
     → Putting write o₀ o at place total rest → length o ≡ length o₀
 putting-length {rest} room p = puts-length (p .done) (room-first (p .done) rest (rw (p .whole) at room)) (p .puts)
+
+-- three pieces, one behind the other
+module _ {write : Bool} {o : List ℕ} {at : ℕ} (xs bs cs : List ℕ) (room : Room write o at (length (xs ++ bs ++ cs))) where
+  pub room-1 : Room write o at (length xs)
+  room-1 = room-first xs bs (room-first (xs ++ bs) cs room)
+
+  pub room-2 : {o₁ : List ℕ} {r₁ : ℕ} → Puts write o o₁ at xs r₁ → Room write o₁ r₁ (length bs)
+  room-2 p = room-next xs bs (room-first (xs ++ bs) cs room) p
+
+  both-put : {o₁ o₂ : List ℕ} {r₁ r₂ : ℕ} → Puts write o o₁ at xs r₁ → Puts write o₁ o₂ r₁ bs r₂ → Puts write o o₂ at (xs ++ bs) r₂
+  both-put p q = puts-then xs bs (room-first (xs ++ bs) cs room) p q
+
+  pub room-3 : {o₁ o₂ : List ℕ} {r₁ r₂ : ℕ} → Puts write o o₁ at xs r₁ → Puts write o₁ o₂ r₁ bs r₂ → Room write o₂ r₂ (length cs)
+  room-3 p q = room-next (xs ++ bs) cs room (both-put p q)
+
+  pub puts-3 : {o₁ o₂ o₃ : List ℕ} {r₁ r₂ r₃ : ℕ} → Puts write o o₁ at xs r₁ → Puts write o₁ o₂ r₁ bs r₂ → Puts write o₂ o₃ r₂ cs r₃ → Puts write o o₃ at (xs ++ bs ++ cs) r₃
+  puts-3 p q r = puts-then (xs ++ bs) cs room (both-put p q) r

@@ -1,0 +1,82 @@
+-- `lexer::letters::put_letters` meets its contract. The loop's invariant: the letters before the place i are put.
+-- Assumes nothing.
+use Prim.Native.Nat.{_-_}
+use lib.ListN.{length}
+use Rattle.text.proofs.PutLaws.{putting-length}
+use Rattle.lexer.proofs.LettersLaws.{Reading, reading-none, reading-room, reading-more, reading-all, letter-inside, no-letter}
+use borrow.Author.Needs.{needs}
+use native.Mathlib.Omega.{arith}
+use Rattle.lexer.proofs.letters.put_letters.Statement.{statement}
+use Rattle.lexer.proofs.letters.put_letters.Tie as tie
+use Rattle.lexer.proofs.letters.put_letters.Reads as reads
+use Rattle.lexer.proofs.letters.put_letters.Lts as lts
+use Rattle.lexer.proofs.Cursor.next_token.Reads as next-token-reads
+use Rattle.text.proofs.put.put_code_point.Reads as put-code-point-reads
+
+abbrev Inv-loop : tie.InvT-loop
+Inv-loop t out₀ at write place₀ i₀ out place i = Reading write out₀ out at place t i
+
+abbrev μ-loop : tie.MeasureT-loop
+μ-loop t out₀ at write place₀ i₀ out place i = length t - i
+
+loop-holds : tie.Need-loop-holds Inv-loop μ-loop
+loop-holds c =
+    reading-none ((c .before .before .args) .write) ((c .before .before .args) .out .now) ((c .before .before .args) .at) ((c .before .before .args) .t .now)
+
+sub-rest : tie.Need-sub-rest Inv-loop μ-loop
+sub-rest c = (c .loop) .inv .inside
+
+part-rest-start : tie.Need-part-rest-start Inv-loop μ-loop
+part-rest-start c = (c .loop) .inv .inside
+
+part-rest-end : tie.Need-part-rest-end Inv-loop μ-loop
+part-rest-end c = search needs
+
+next-token-requires : tie.Need-next-token-requires Inv-loop μ-loop
+next-token-requires c κs = search needs
+
+enum-known-token : tie.Need-enum-known-token Inv-loop μ-loop
+enum-known-token c = search needs
+
+put-code-point-requires : tie.Need-put-code-point-requires Inv-loop μ-loop
+put-code-point-requires c κs =
+    reading-room (c .before .before .before .before .before .before .before .before .before .pre) ((c .before .before .before .before .before .before .loop) .inv) ((c .before .before .before .before .next-token) .result) ((c .before .before .before .before .next-token) .ensures .0) _ _ ((c .before .before .token) .given .1)
+
+add-i : tie.Need-add-i Inv-loop μ-loop
+add-i c = search needs
+
+loop-less : tie.Need-loop-less Inv-loop μ-loop
+loop-less c =
+    let inside = letter-inside (c .before .before .before .before .before .before .before .before .before .before .before .before .before .pre) ((c .before .before .before .before .before .before .before .before .before .before .loop) .inv) ((c .before .before .before .before .before .before .before .before .next-token) .result) ((c .before .before .before .before .before .before .before .before .next-token) .ensures .0) _ _ ((c .before .before .before .before .before .before .token) .given .1) in
+    omega arith
+
+loop-again : tie.Need-loop-again Inv-loop μ-loop
+loop-again c =
+    reading-more (c .before .before .before .before .before .before .before .before .before .before .before .before .before .pre) ((c .before .before .before .before .before .before .before .before .before .before .loop) .inv) ((c .before .before .before .before .before .before .before .before .next-token) .result) ((c .before .before .before .before .before .before .before .before .next-token) .ensures .0) _ _ ((c .before .before .before .before .before .before .token) .given .1) ((c .before .before .before .put-code-point) .ensures)
+
+same-length : tie.Need-same-length Inv-loop μ-loop
+same-length c =
+    putting-length (c .before .before .before .before .before .before .pre) ((c .before .before .before .loop) .inv .putting)
+
+returns : tie.Need-returns Inv-loop μ-loop
+returns c =
+    reading-all ((c .before .before .before .loop) .inv) ((c .before .next-token) .result) ((c .before .next-token) .ensures .0) (no-letter ((c .before .next-token) .result .token) ((c .match) .keys2))
+
+pub put-letters-spec : {M : Type 1} → statement M
+put-letters-spec =
+    tie.close
+    (tie.spec
+    Inv-loop
+    μ-loop
+    loop-holds
+    sub-rest
+    part-rest-start
+    part-rest-end
+    next-token-requires
+    enum-known-token
+    put-code-point-requires
+    add-i
+    loop-less
+    loop-again
+    same-length
+    returns)

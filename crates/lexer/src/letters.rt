@@ -1,0 +1,28 @@
+// The letters at the head of a text, which the Rust's parse_text reads.
+use crate::Cursor;
+use text::put::put_code_point;
+use token::Token;
+ghost use lib.ListN.{length};
+ghost use Rattle.text.specs.Put.{Room, Puts};
+ghost use Rattle.lexer.specs.Letters.{letters, encodeAll};
+
+// Puts the characters of the letters at the head of a text.
+pub fn put_letters(t: &[u8], out: &mut [u8], at: usize, write: bool) -> usize
+    requires { ⌜ Room write (now out) at (length (encodeAll (letters (now t)))) ⌝ }
+    ensures { λ r. ⌜ Puts write (now (out .entry)) (now (out .exit)) at (encodeAll (letters (now (t .entry)))) r ⌝ }
+{
+    let mut place = at;
+    let mut i = 0;
+    loop {
+        let rest = &t[i..];
+        let l = Cursor { at: 0 }.next_token(rest);
+        let token = l.token;
+        match token {
+            Token::Letter(c, _) => {
+                place = put_code_point(c, out, place, write);
+                i += l.end;
+            }
+            _ => return place,
+        }
+    }
+}
