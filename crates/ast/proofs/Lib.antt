@@ -1,3 +1,4 @@
 pub mod HeldLaws
+pub mod PrintLaws
 pub mod ShapeLaws
 pub mod StoreLaws

@@ -14,11 +14,11 @@ use Rattle.ast.specs.declared.Leaf.{Leaf}
 use Rattle.ast.specs.declared.One.{One}
 use Rattle.ast.specs.declared.Two.{Two}
 use Rattle.ast.specs.Tree.{Node, Nodes, empty, _then_, snoc, setLeaf, setVariant}
-use Rattle.ast.specs.Print.{fixedText, widthText, letterText, stretchedText, variantText, letterMarkup, operatorMarkup, parseError, printLeaf, slashLeaf, slash, displayText, printOne, printTwo, printThree, cellLeaf, cell, print}
+use Rattle.ast.specs.Print.{fixedText, widthText, letterText, stretchedText, variantText, letterMarkup, operatorMarkup, parseError, sizedMarkup, undefinedMarkup, printLeaf, slashLeaf, slash, displayText, printOne, printTwo, printThree, cellLeaf, cell, print}
 
 -- whoever unfolds this unfolds all definitions of this crate, as an example has to
 unfoldable pub ast-opens : Unit {0}
-unfolding snoc setLeaf setVariant fixedText widthText letterText stretchedText variantText letterMarkup operatorMarkup parseError printLeaf slashLeaf slash displayText printOne printTwo printThree cellLeaf cell print
+unfolding snoc setLeaf setVariant fixedText widthText letterText stretchedText variantText letterMarkup operatorMarkup parseError sizedMarkup undefinedMarkup printLeaf slashLeaf slash displayText printOne printTwo printThree cellLeaf cell print
 ast-opens = tt
 
 -- the Debug text of an unknown command, here a quote and a backslash at the body's end, is escaped twice

@@ -55,6 +55,15 @@ operatorMarkup c =
 unfoldable pub parseError : List ℕ → List ℕ
 parseError d = bytes "<mtext>[PARSE ERROR: " ++ d ++ bytes "]</mtext>"
 
+-- a sized parenthesis: it closes with `</mro>`
+unfoldable pub sizedMarkup : ℕ → ℕ → List ℕ
+sizedMarkup z t =
+    bytes "<mrow><mo maxsize=\"" ++ fixedText z ++ bytes "\" minsize=\"" ++ fixedText z ++ bytes "\">" ++ fixedText t ++ bytes "</mro></mrow>"
+
+-- the token that is no node, its Debug text escaped once more
+unfoldable pub undefinedMarkup : List ℕ → Undefined → List ℕ
+undefinedMarkup s u = parseError (bytes "Undefined(\"" ++ escape (debug s u) ++ bytes "\")")
+
 unfoldable pub printLeaf : List ℕ → Leaf → List ℕ
 printLeaf s (Leaf.Number a e) = bytes "<mn>" ++ part a e s ++ bytes "</mn>"
 printLeaf s (Leaf.Letter c v) = letterMarkup c v
@@ -64,12 +73,11 @@ printLeaf s (Leaf.FunctionName a e) = bytes "<mi>" ++ letterText s a e ++ bytes 
 printLeaf s (Leaf.Space w) = bytes "<mspace width=\"" ++ widthText w ++ bytes "em\"/>"
 printLeaf s (Leaf.StrechedOp o) = bytes "<mo stretchy=\"true\">" ++ stretchedText o ++ bytes "</mo>"
 printLeaf s (Leaf.OtherOperator t) = bytes "<mo>" ++ fixedText t ++ bytes "</mo>"
-printLeaf s (Leaf.SizedParen z t) =
-    bytes "<mrow><mo maxsize=\"" ++ fixedText z ++ bytes "\" minsize=\"" ++ fixedText z ++ bytes "\">" ++ fixedText t ++ bytes "</mro></mrow>"
+printLeaf s (Leaf.SizedParen z t) = sizedMarkup z t
 printLeaf s (Leaf.Text a e) = bytes "<mtext>" ++ letterText s a e ++ bytes "</mtext>"
 printLeaf s Leaf.Ampersand = parseError (bytes "Ampersand")
 printLeaf s Leaf.NewLine = parseError (bytes "NewLine")
-printLeaf s (Leaf.Undefined u) = parseError (bytes "Undefined(\"" ++ escape (debug s u) ++ bytes "\")")
+printLeaf s (Leaf.Undefined u) = undefinedMarkup s u
 
 -- a letter or an operator under a slash; m is the leaf's own markup
 unfoldable pub slashLeaf : Leaf → List ℕ → List ℕ
