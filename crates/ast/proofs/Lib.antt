@@ -1,3 +1,4 @@
+pub mod FrontLaws
 pub mod HeldLaws
 pub mod PrintLaws
 pub mod ShapeLaws

@@ -5,4 +5,5 @@ pub mod Tree
 pub mod Held
 pub mod Inside
 pub mod Print
+pub mod Fronts
 pub mod Examples

@@ -22,7 +22,14 @@ ghost use Rattle.ast.specs.Print.{fixedText, widthText, letterText, stre
 ghost use Rattle.ast.specs.Inside.{LeafInside};
 
 // Puts a fixed text between two pieces.
-fn put_text_in(front: &[u8], t: u32, back: &[u8], out: &mut [u8], at: usize, write: bool) -> usize
+pub fn put_text_in(
+    front: &[u8],
+    t: u32,
+    back: &[u8],
+    out: &mut [u8],
+    at: usize,
+    write: bool,
+) -> usize
     requires { ⌜ Room write (now out) at (length (now front ++ fixedText t ++ now back)) ⌝ }
     ensures { λ r. ⌜ Puts write (now (out .entry)) (now (out .exit)) at (now (front .entry) ++ fixedText t ++ now (back .entry)) r ⌝ }
 {
@@ -42,7 +49,7 @@ fn put_width_in(front: &[u8], w: u32, back: &[u8], out: &mut [u8], at: usize, wr
 }
 
 // Puts a character between two pieces.
-fn put_character_in(
+pub fn put_character_in(
     front: &[u8],
     c: u32,
     back: &[u8],
