@@ -1,5 +1,6 @@
 pub mod FrontLaws
 pub mod HeldLaws
+pub mod LeafLaws
 pub mod PrintLaws
 pub mod ShapeLaws
 pub mod StoreLaws

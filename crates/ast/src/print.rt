@@ -18,7 +18,7 @@ ghost use Rattle.text.specs.Utf8.{encode};
 ghost use Rattle.text.specs.Text.{bytes, part};
 ghost use Rattle.text.specs.Put.{Room, Puts};
 ghost use Rattle.token.specs.Debug.{Inside};
-ghost use Rattle.ast.specs.Print.{fixedText, widthText, letterText, stretchedText, variantText, letterMarkup, operatorMarkup, sizedMarkup, undefinedMarkup, printLeaf};
+ghost use Rattle.ast.specs.Print.{fixedText, widthText, letterText, stretchedText, variantText, letterMarkup, operatorMarkup, sizedMarkup, undefinedMarkup, printLeaf, slashLeaf, cellLeaf};
 ghost use Rattle.ast.specs.Inside.{LeafInside};
 
 // Puts a fixed text between two pieces.
@@ -239,5 +239,36 @@ pub fn put_leaf(s: &[u8], l: Leaf, out: &mut [u8], at: usize, write: bool) -> us
             write,
         ),
         Leaf::Undefined(u) => put_undefined(s, u, out, at, write),
+    }
+}
+
+// Puts a leaf under a slash: a letter and an operator bear it, any other leaf stands as it is.
+pub fn put_slashed_leaf(s: &[u8], l: Leaf, out: &mut [u8], at: usize, write: bool) -> usize
+    requires { ⌜ LeafInside (length (now s)) l × Room write (now out) at (length (slashLeaf l (printLeaf (now s) l))) ⌝ }
+    ensures { λ r. ⌜ Puts write (now (out .entry)) (now (out .exit)) at (slashLeaf l (printLeaf (now (s .entry)) l)) r ⌝ }
+{
+    match l {
+        Leaf::Letter(c, v) => put_variant_letter(c, v, &{ *b"&#x0338;</mi>" }, out, at, write),
+        Leaf::Operator(c) => put_character_in(
+            &{ *b"<mo>" },
+            c,
+            &{ *b"&#x0338;</mo>" },
+            out,
+            at,
+            write,
+        ),
+        _ => put_leaf(s, l, out, at, write),
+    }
+}
+
+// Puts a leaf that is a direct part of a matrix: an ampersand begins a cell and a new line a row.
+pub fn put_cell_leaf(s: &[u8], l: Leaf, out: &mut [u8], at: usize, write: bool) -> usize
+    requires { ⌜ LeafInside (length (now s)) l × Room write (now out) at (length (cellLeaf l (printLeaf (now s) l))) ⌝ }
+    ensures { λ r. ⌜ Puts write (now (out .entry)) (now (out .exit)) at (cellLeaf l (printLeaf (now (s .entry)) l)) r ⌝ }
+{
+    match l {
+        Leaf::Ampersand => put(&{ *b"</mtd><mtd>" }, out, at, write),
+        Leaf::NewLine => put(&{ *b"</mtd></mtr><mtr><mtd>" }, out, at, write),
+        _ => put_leaf(s, l, out, at, write),
     }
 }
