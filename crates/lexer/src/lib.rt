@@ -181,36 +181,37 @@ impl Cursor {
         let c = p.code;
         let end = at + p.width;
         match c {
-            61 => Lexeme::new(Token::Operator(61), at, end),
-            59 => Lexeme::new(Token::Operator(59), at, end),
-            44 => Lexeme::new(Token::Operator(44), at, end),
-            46 => Lexeme::new(Token::Operator(46), at, end),
-            39 => Lexeme::new(Token::Operator(39), at, end),
-            40 => Lexeme::new(Token::Paren(1), at, end),
-            41 => Lexeme::new(Token::Paren(2), at, end),
-            123 => Lexeme::new(Token::LBrace, at, end),
-            125 => Lexeme::new(Token::RBrace, at, end),
-            91 => Lexeme::new(Token::Paren(3), at, end),
-            93 => Lexeme::new(Token::Paren(4), at, end),
-            124 => Lexeme::new(Token::Paren(5), at, end),
-            43 => Lexeme::new(Token::Operator(43), at, end),
-            45 => Lexeme::new(Token::Operator(45), at, end),
-            42 => Lexeme::new(Token::Operator(42), at, end),
-            47 => Lexeme::new(Token::Operator(47), at, end),
-            33 => Lexeme::new(Token::Operator(33), at, end),
-            60 => Lexeme::new(Token::Operator(60), at, end),
-            62 => Lexeme::new(Token::Operator(62), at, end),
-            95 => Lexeme::new(Token::Underscore, at, end),
-            94 => Lexeme::new(Token::Circumflex, at, end),
-            38 => Lexeme::new(Token::Ampersand, at, end),
-            0 => Lexeme::new(Token::EOF, at, end),
+            61 => Lexeme::new(Token::Operator(61), at, end), // =
+            59 => Lexeme::new(Token::Operator(59), at, end), // ;
+            44 => Lexeme::new(Token::Operator(44), at, end), // ,
+            46 => Lexeme::new(Token::Operator(46), at, end), // .
+            39 => Lexeme::new(Token::Operator(39), at, end), // '
+            40 => Lexeme::new(Token::Paren(1), at, end), // (
+            41 => Lexeme::new(Token::Paren(2), at, end), // )
+            123 => Lexeme::new(Token::LBrace, at, end), // {
+            125 => Lexeme::new(Token::RBrace, at, end), // }
+            91 => Lexeme::new(Token::Paren(3), at, end), // [
+            93 => Lexeme::new(Token::Paren(4), at, end), // ]
+            124 => Lexeme::new(Token::Paren(5), at, end), // |
+            43 => Lexeme::new(Token::Operator(43), at, end), // +
+            45 => Lexeme::new(Token::Operator(45), at, end), // -
+            42 => Lexeme::new(Token::Operator(42), at, end), // *
+            47 => Lexeme::new(Token::Operator(47), at, end), // /
+            33 => Lexeme::new(Token::Operator(33), at, end), // !
+            60 => Lexeme::new(Token::Operator(60), at, end), // <
+            62 => Lexeme::new(Token::Operator(62), at, end), // >
+            95 => Lexeme::new(Token::Underscore, at, end), // _
+            94 => Lexeme::new(Token::Circumflex, at, end), // ^
+            38 => Lexeme::new(Token::Ampersand, at, end), // &
+            0 => Lexeme::new(Token::EOF, at, end), // NUL
+            // A colon looks one character ahead.
             58 => {
                 if self.assigns(s) {
                     return Lexeme::new(Token::Paren(6), at, at + 2);
                 }
                 Lexeme::new(Token::Operator(58), at, end)
             }
-            92 => self.read_command(s),
+            92 => self.read_command(s), // a backslash
             48..=57 => self.read_number(s),
             65..=90 => Lexeme::new(Token::Letter(c, Variant::Italic), at, end),
             97..=122 => Lexeme::new(Token::Letter(c, Variant::Italic), at, end),
