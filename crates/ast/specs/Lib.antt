@@ -3,7 +3,3 @@ pub mod Store
 pub mod Change
 pub mod Tree
 pub mod Held
-pub mod Inside
-pub mod Print
-pub mod Fronts
-pub mod Examples

@@ -55,3 +55,8 @@ unfoldable mutual
   pub setVariants : Variant → Nodes → Nodes
   setVariants v empty = empty
   setVariants v (n then ns) = setVariant v n then setVariants v ns
+
+-- whoever unfolds this unfolds the definitions above, as an example has to
+unfoldable pub ast-opens : Unit {0}
+unfolding snoc setLeaf setVariant
+ast-opens = tt

@@ -13,8 +13,6 @@
 //     bytes 18..20   unused
 //     bytes 20..24   kept free for a span
 pub mod codes;
-pub mod fronts;
-pub mod print;
 pub mod store;
 
 use attribute::Accent;

@@ -15,8 +15,7 @@ use Rattle.token.specs.Examples.{token-opens}
 use Rattle.lexer.specs.Examples.{lexer-opens}
 use Rattle.ast.specs.declared.Leaf.{Leaf}
 use Rattle.ast.specs.declared.Two.{Two}
-use Rattle.ast.specs.Tree.{Node, leaf, two, Nodes, empty, _then_}
-use Rattle.ast.specs.Examples.{ast-opens}
+use Rattle.ast.specs.Tree.{Node, leaf, two, Nodes, empty, _then_, ast-opens}
 use Rattle.parse.specs.State.{startsWithDigit, following, next, new, pastLetters, parseText}
 use Rattle.parse.specs.Environment.{environments, environment}
 use Rattle.parse.specs.Parse.{Parsed, made, refused, _>>=_, build, grouped, groupUpTo, parseGroup, parseSqrt, parseTwo, binomial, finishBinom, parseOne, parseBrace, parseLimits, parseBigOp, parseIntegral, parseLim, parseSlashed, parseStyle, withFence, parseLeft, stretchLeaf, stretch, parseMiddle, parseBig, opened, inEnvironment, parseBegin, parseTextLeaf, parseBare, singleStep, script, nodeStep, parseNode, nodesUpTo, parse}

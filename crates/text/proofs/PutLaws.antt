@@ -1,6 +1,6 @@
 -- Steps that put pieces of text compose, and leave room for one another.
 -- Assumes nothing.
-use mathlib.Core.Path.{_≡_, refl, sym, _∙_, ap}
+use mathlib.Core.Path.{_≡_, refl, sym, _∙_, ap, subst, subst⁻¹}
 use mathlib.Core.Bool.{Bool, true, false}
 use mathlib.Core.List.{List, [], _∷_, _++_, append-assoc, append-nil}
 use Prim.Native.Nat.{ℕ, zero, suc, _+_, _-_, _/_, _%_, _≤_, _<_}
@@ -167,3 +167,10 @@ module _ {write : Bool} {o : List ℕ} {at : ℕ} (xs bs cs : List ℕ) (room : 
 
   pub puts-3 : {o₁ o₂ o₃ : List ℕ} {r₁ r₂ r₃ : ℕ} → Puts write o o₁ at xs r₁ → Puts write o₁ o₂ r₁ bs r₂ → Puts write o₂ o₃ r₂ cs r₃ → Puts write o o₃ at (xs ++ bs ++ cs) r₃
   puts-3 p q r = puts-then (xs ++ bs) cs room (both-put p q) r
+
+-- the same bytes, grouped in another way
+pub room-as : {write : Bool} {o l m : List ℕ} {at : ℕ} → l ≡ m → Room write o at (length l) → Room write o at (length m)
+room-as {write} {o} {l} {m} {at} e h = subst (λ x. Room write o at (length x)) e h
+
+pub puts-as : {write : Bool} {o o′ l m : List ℕ} {at r : ℕ} → l ≡ m → Puts write o o′ at m r → Puts write o o′ at l r
+puts-as {write} {o} {o′} {l} {m} {at} {r} e h = subst⁻¹ (λ x. Puts write o o′ at x r) e h

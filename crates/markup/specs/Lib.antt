@@ -1,0 +1,4 @@
+pub mod Inside
+pub mod Print
+pub mod Fronts
+pub mod Examples

@@ -1,0 +1,274 @@
+// The printer: `Display` of the Rust's `Node`.
+use ast::Leaf;
+use ast::Stretched;
+use attribute::Variant;
+use attribute::is_italic;
+use attribute::put_variant;
+use lexer::letters::put_letters;
+use text::put::put;
+use text::put::put_code_point;
+use token::Undefined;
+use token::debug::put_debug;
+use token::texts::put_text;
+use token::texts::put_width;
+ghost use mathlib.Core.List.{_++_};
+ghost use Prim.Native.Nat.{_≤_};
+ghost use lib.ListN.{length};
+ghost use Rattle.text.specs.Utf8.{encode};
+ghost use Rattle.text.specs.Text.{bytes, part};
+ghost use Rattle.text.specs.Put.{Room, Puts};
+ghost use Rattle.token.specs.Debug.{Inside};
+ghost use Rattle.markup.specs.Print.{fixedText, widthText, letterText, stretchedText, variantText, letterMarkup, operatorMarkup, sizedMarkup, undefinedMarkup, printLeaf, slashLeaf, cellLeaf};
+ghost use Rattle.markup.specs.Inside.{LeafInside};
+
+// Puts a fixed text between two pieces.
+pub fn put_text_in(
+    front: &[u8],
+    t: u32,
+    back: &[u8],
+    out: &mut [u8],
+    at: usize,
+    write: bool,
+) -> usize
+    requires { ⌜ Room write (now out) at (length (now front ++ fixedText t ++ now back)) ⌝ }
+    ensures { λ r. ⌜ Puts write (now (out .entry)) (now (out .exit)) at (now (front .entry) ++ fixedText t ++ now (back .entry)) r ⌝ }
+{
+    let inner = put(front, out, at, write);
+    let end = put_text(t, out, inner, write);
+    put(back, out, end, write)
+}
+
+// Puts a width between two pieces.
+fn put_width_in(front: &[u8], w: u32, back: &[u8], out: &mut [u8], at: usize, write: bool) -> usize
+    requires { ⌜ Room write (now out) at (length (now front ++ widthText w ++ now back)) ⌝ }
+    ensures { λ r. ⌜ Puts write (now (out .entry)) (now (out .exit)) at (now (front .entry) ++ widthText w ++ now (back .entry)) r ⌝ }
+{
+    let inner = put(front, out, at, write);
+    let end = put_width(w, out, inner, write);
+    put(back, out, end, write)
+}
+
+// Puts a character between two pieces.
+pub fn put_character_in(
+    front: &[u8],
+    c: u32,
+    back: &[u8],
+    out: &mut [u8],
+    at: usize,
+    write: bool,
+) -> usize
+    requires { ⌜ Room write (now out) at (length (now front ++ encode c ++ now back)) ⌝ }
+    ensures { λ r. ⌜ Puts write (now (out .entry)) (now (out .exit)) at (now (front .entry) ++ encode c ++ now (back .entry)) r ⌝ }
+{
+    let inner = put(front, out, at, write);
+    let end = put_code_point(c, out, inner, write);
+    put(back, out, end, write)
+}
+
+// Puts a part of the body between two pieces.
+fn put_part_in(
+    front: &[u8],
+    s: &[u8],
+    a: usize,
+    e: usize,
+    back: &[u8],
+    out: &mut [u8],
+    at: usize,
+    write: bool,
+) -> usize
+    requires { ⌜ (a ≤ e) × (e ≤ length (now s)) × Room write (now out) at (length (now front ++ part a e (now s) ++ now back)) ⌝ }
+    ensures { λ r. ⌜ Puts write (now (out .entry)) (now (out .exit)) at (now (front .entry) ++ part a e (now (s .entry)) ++ now (back .entry)) r ⌝ }
+{
+    let inner = put(front, out, at, write);
+    let end = put(&s[a..e], out, inner, write);
+    put(back, out, end, write)
+}
+
+// Puts the letters of a part of the body between two pieces.
+fn put_letters_in(
+    front: &[u8],
+    s: &[u8],
+    a: usize,
+    e: usize,
+    back: &[u8],
+    out: &mut [u8],
+    at: usize,
+    write: bool,
+) -> usize
+    requires { ⌜ (a ≤ e) × (e ≤ length (now s)) × Room write (now out) at (length (now front ++ letterText (now s) a e ++ now back)) ⌝ }
+    ensures { λ r. ⌜ Puts write (now (out .entry)) (now (out .exit)) at (now (front .entry) ++ letterText (now (s .entry)) a e ++ now (back .entry)) r ⌝ }
+{
+    let inner = put(front, out, at, write);
+    let end = put_letters(&s[a..e], out, inner, write);
+    put(back, out, end, write)
+}
+
+// Puts a letter with its variant and a last piece behind the character.
+fn put_variant_letter(
+    c: u32,
+    v: Variant,
+    back: &[u8],
+    out: &mut [u8],
+    at: usize,
+    write: bool,
+) -> usize
+    requires { ⌜ Room write (now out) at (length (bytes "<mi" ++ variantText v ++ bytes ">" ++ encode c ++ now back)) ⌝ }
+    ensures { λ r. ⌜ Puts write (now (out .entry)) (now (out .exit)) at (bytes "<mi" ++ variantText v ++ bytes ">" ++ encode c ++ now (back .entry)) r ⌝ }
+{
+    let name = put(b"<mi mathvariant=\"", out, at, write);
+    let end = put_variant(v, out, name, write);
+    put_character_in(b"\">", c, back, out, end, write)
+}
+
+// Puts a letter: italic needs no attribute.
+fn put_letter(c: u32, v: Variant, out: &mut [u8], at: usize, write: bool) -> usize
+    requires { ⌜ Room write (now out) at (length (letterMarkup c v)) ⌝ }
+    ensures { λ r. ⌜ Puts write (now (out .entry)) (now (out .exit)) at (letterMarkup c v) r ⌝ }
+{
+    if is_italic(v) {
+        return put_character_in(b"<mi>", c, b"</mi>", out, at, write);
+    }
+    put_variant_letter(c, v, b"</mi>", out, at, write)
+}
+
+// Puts an operator: a partial differential is italic.
+fn put_operator(c: u32, out: &mut [u8], at: usize, write: bool) -> usize
+    requires { ⌜ Room write (now out) at (length (operatorMarkup c)) ⌝ }
+    ensures { λ r. ⌜ Puts write (now (out .entry)) (now (out .exit)) at (operatorMarkup c) r ⌝ }
+{
+    if c == 0x2202 {
+        return put(
+            b"<mo mathvariant=\"italic\">\xe2\x88\x82</mo>",
+            out,
+            at,
+            write,
+        );
+    }
+    put_character_in(b"<mo>", c, b"</mo>", out, at, write)
+}
+
+// Puts a stretched operator.
+fn put_stretched(o: Stretched, out: &mut [u8], at: usize, write: bool) -> usize
+    requires { ⌜ Room write (now out) at (length (bytes "<mo stretchy=\"true\">" ++ stretchedText o ++ bytes "</mo>")) ⌝ }
+    ensures { λ r. ⌜ Puts write (now (out .entry)) (now (out .exit)) at (bytes "<mo stretchy=\"true\">" ++ stretchedText o ++ bytes "</mo>") r ⌝ }
+{
+    match o {
+        Stretched::Character(c) => put_character_in(
+            b"<mo stretchy=\"true\">",
+            c,
+            b"</mo>",
+            out,
+            at,
+            write,
+        ),
+        Stretched::Fixed(t) => put_text_in(b"<mo stretchy=\"true\">", t, b"</mo>", out, at, write),
+    }
+}
+
+// Puts a sized parenthesis, which closes as the Rust closes it.
+fn put_sized_paren(z: u32, t: u32, out: &mut [u8], at: usize, write: bool) -> usize
+    requires { ⌜ Room write (now out) at (length (sizedMarkup z t)) ⌝ }
+    ensures { λ r. ⌜ Puts write (now (out .entry)) (now (out .exit)) at (sizedMarkup z t) r ⌝ }
+{
+    let most = put_text_in(b"<mrow><mo maxsize=\"", z, b"\" minsize=\"", out, at, write);
+    let least = put_text_in(b"", z, b"\">", out, most, write);
+    put_text_in(b"", t, b"</mro></mrow>", out, least, write)
+}
+
+// Puts the error text of a token that is no node.
+fn put_undefined(s: &[u8], u: Undefined, out: &mut [u8], at: usize, write: bool) -> usize
+    requires { ⌜ Inside (length (now s)) u × Room write (now out) at (length (undefinedMarkup (now s) u)) ⌝ }
+    ensures { λ r. ⌜ Puts write (now (out .entry)) (now (out .exit)) at (undefinedMarkup (now (s .entry)) u) r ⌝ }
+{
+    let inner = put(b"<mtext>[PARSE ERROR: Undefined(\"", out, at, write);
+    let end = put_debug(s, u, out, inner, write);
+    put(b"\")]</mtext>", out, end, write)
+}
+
+// Puts a leaf. A byte string is laid down where its function begins; copied in a block it is laid down only in its arm.
+pub fn put_leaf(s: &[u8], l: Leaf, out: &mut [u8], at: usize, write: bool) -> usize
+    requires { ⌜ LeafInside (length (now s)) l × Room write (now out) at (length (printLeaf (now s) l)) ⌝ }
+    ensures { λ r. ⌜ Puts write (now (out .entry)) (now (out .exit)) at (printLeaf (now (s .entry)) l) r ⌝ }
+{
+    match l {
+        Leaf::Number(a, e) => put_part_in(&{ *b"<mn>" }, s, a, e, &{ *b"</mn>" }, out, at, write),
+        Leaf::Letter(c, v) => put_letter(c, v, out, at, write),
+        Leaf::Operator(c) => put_operator(c, out, at, write),
+        Leaf::Function(t) => put_text_in(&{ *b"<mi>" }, t, &{ *b"</mi>" }, out, at, write),
+        Leaf::FunctionName(a, e) => put_letters_in(
+            &{ *b"<mi>" },
+            s,
+            a,
+            e,
+            &{ *b"</mi>" },
+            out,
+            at,
+            write,
+        ),
+        Leaf::Space(w) => put_width_in(
+            &{ *b"<mspace width=\"" },
+            w,
+            &{ *b"em\"/>" },
+            out,
+            at,
+            write,
+        ),
+        Leaf::StrechedOp(o) => put_stretched(o, out, at, write),
+        Leaf::OtherOperator(t) => put_text_in(&{ *b"<mo>" }, t, &{ *b"</mo>" }, out, at, write),
+        Leaf::SizedParen(z, t) => put_sized_paren(z, t, out, at, write),
+        Leaf::Text(a, e) => put_letters_in(
+            &{ *b"<mtext>" },
+            s,
+            a,
+            e,
+            &{ *b"</mtext>" },
+            out,
+            at,
+            write,
+        ),
+        Leaf::Ampersand => put(
+            &{ *b"<mtext>[PARSE ERROR: Ampersand]</mtext>" },
+            out,
+            at,
+            write,
+        ),
+        Leaf::NewLine => put(
+            &{ *b"<mtext>[PARSE ERROR: NewLine]</mtext>" },
+            out,
+            at,
+            write,
+        ),
+        Leaf::Undefined(u) => put_undefined(s, u, out, at, write),
+    }
+}
+
+// Puts a leaf under a slash: a letter and an operator bear it, any other leaf stands as it is.
+pub fn put_slashed_leaf(s: &[u8], l: Leaf, out: &mut [u8], at: usize, write: bool) -> usize
+    requires { ⌜ LeafInside (length (now s)) l × Room write (now out) at (length (slashLeaf l (printLeaf (now s) l))) ⌝ }
+    ensures { λ r. ⌜ Puts write (now (out .entry)) (now (out .exit)) at (slashLeaf l (printLeaf (now (s .entry)) l)) r ⌝ }
+{
+    match l {
+        Leaf::Letter(c, v) => put_variant_letter(c, v, &{ *b"&#x0338;</mi>" }, out, at, write),
+        Leaf::Operator(c) => put_character_in(
+            &{ *b"<mo>" },
+            c,
+            &{ *b"&#x0338;</mo>" },
+            out,
+            at,
+            write,
+        ),
+        _ => put_leaf(s, l, out, at, write),
+    }
+}
+
+// Puts a leaf that is a direct part of a matrix: an ampersand begins a cell and a new line a row.
+pub fn put_cell_leaf(s: &[u8], l: Leaf, out: &mut [u8], at: usize, write: bool) -> usize
+    requires { ⌜ LeafInside (length (now s)) l × Room write (now out) at (length (cellLeaf l (printLeaf (now s) l))) ⌝ }
+    ensures { λ r. ⌜ Puts write (now (out .entry)) (now (out .exit)) at (cellLeaf l (printLeaf (now (s .entry)) l)) r ⌝ }
+{
+    match l {
+        Leaf::Ampersand => put(&{ *b"</mtd><mtd>" }, out, at, write),
+        Leaf::NewLine => put(&{ *b"</mtd></mtr><mtr><mtd>" }, out, at, write),
+        _ => put_leaf(s, l, out, at, write),
+    }
+}
