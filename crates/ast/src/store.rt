@@ -57,6 +57,14 @@ pub fn get_record(store: &[u8], i: usize) -> Record
     }
 }
 
+// The next of the record at an index, by itself.
+pub fn get_next(store: &[u8], i: usize) -> usize
+    requires { ⌜ i * 24 + 24 ≤ length (now store) ⌝ }
+    ensures { λ r. ⌜ (r ≡ recordAt (now (store .entry)) i .next) × (r < 65536) ⌝ }
+{
+    get_two(store, i * 24 + 8)
+}
+
 // Puts a record at an index; the bytes after its numbers stay as they were.
 pub fn put_record(store: &mut [u8], i: usize, r: Record)
     requires { ⌜ (i * 24 + 24 ≤ length (now store)) × Small r ⌝ }
