@@ -1,3 +1,6 @@
 pub mod HeldLaws
+pub mod KindLaws
+pub mod RowLaws
 pub mod ShapeLaws
 pub mod StoreLaws
+pub mod VariantLaws

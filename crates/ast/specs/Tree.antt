@@ -1,5 +1,6 @@
 -- The Rust's `Node`, its cases grouped by the number of parts, which stand in the order in which they are printed.
 -- Assumes nothing.
+use Prim.Native.Nat.{ℕ, suc, _+_}
 use Rattle.attribute.specs.declared.Variant.{Variant}
 use Rattle.attribute.specs.declared.ColumnAlign.{ColumnAlign}
 use Rattle.ast.specs.declared.Leaf.{Leaf}
@@ -56,7 +57,21 @@ unfoldable mutual
   setVariants v empty = empty
   setVariants v (n then ns) = setVariant v n then setVariants v ns
 
+-- how many nodes a tree has, and how many some trees have together
+unfoldable mutual
+  pub size : Node → ℕ
+  size (leaf l) = 1
+  size (one k a) = suc (size a)
+  size (two k a b) = suc (size a + size b)
+  size (three k a b c) = suc (size a + size b + size c)
+  size (row ns) = suc (sizes ns)
+  size (matrix align ns) = suc (sizes ns)
+
+  pub sizes : Nodes → ℕ
+  sizes empty = 0
+  sizes (n then ns) = size n + sizes ns
+
 -- whoever unfolds this unfolds the definitions above, as an example has to
 unfoldable pub ast-opens : Unit {0}
-unfolding snoc setLeaf setVariant
+unfolding snoc setLeaf setVariant size
 ast-opens = tt

@@ -13,7 +13,9 @@
 //     bytes 18..20   unused
 //     bytes 20..24   kept free for a span
 pub mod codes;
+pub mod rows;
 pub mod store;
+pub mod variant;
 
 use attribute::Accent;
 use attribute::ColumnAlign;

@@ -1,4 +1,3 @@
-pub mod Inside
 pub mod Print
 pub mod Fronts
 pub mod Examples

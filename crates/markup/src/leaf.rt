@@ -19,7 +19,7 @@ ghost use Rattle.text.specs.Text.{bytes, part};
 ghost use Rattle.text.specs.Put.{Room, Puts};
 ghost use Rattle.token.specs.Debug.{Inside};
 ghost use Rattle.markup.specs.Print.{fixedText, widthText, letterText, stretchedText, variantText, letterMarkup, operatorMarkup, sizedMarkup, undefinedMarkup, printLeaf, slashLeaf, cellLeaf};
-ghost use Rattle.markup.specs.Inside.{LeafInside};
+ghost use Rattle.ast.specs.Inside.{LeafInside};
 
 // Puts a fixed text between two pieces.
 pub fn put_text_in(

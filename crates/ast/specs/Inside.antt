@@ -2,7 +2,8 @@
 -- Assumes nothing.
 use Prim.Native.Nat.{ℕ, _≤_}
 use Rattle.token.specs.Debug.{Inside}
 use Rattle.ast.specs.declared.Leaf.{Leaf}
+use Rattle.ast.specs.Tree.{Node, leaf, one, two, three, row, matrix, Nodes, empty, _then_}
 
 abbrev pub LeafInside : ℕ → Leaf → Type 0
 LeafInside n (Leaf.Number a e) = (a ≤ e) × (e ≤ n)
@@ -18,3 +19,17 @@ LeafInside n (Leaf.Text a e) = (a ≤ e) × (e ≤ n)
 LeafInside n Leaf.Ampersand = Unit {0}
 LeafInside n Leaf.NewLine = Unit {0}
 LeafInside n (Leaf.Undefined u) = Inside n u
+
+-- .. of every leaf of a tree
+abbrev mutual
+  pub TreeInside : ℕ → Node → Type 0
+  TreeInside n (leaf l) = LeafInside n l
+  TreeInside n (one k a) = TreeInside n a
+  TreeInside n (two k a b) = TreeInside n a × TreeInside n b
+  TreeInside n (three k a b c) = TreeInside n a × TreeInside n b × TreeInside n c
+  TreeInside n (row ns) = AllInside n ns
+  TreeInside n (matrix align ns) = AllInside n ns
+
+  pub AllInside : ℕ → Nodes → Type 0
+  AllInside n empty = Unit {0}
+  AllInside n (a then ns) = TreeInside n a × AllInside n ns

@@ -1,0 +1,44 @@
+-- What node the record of a held tree is.
+-- Assumes nothing.
+use mathlib.Core.Path.{_≡_, ap, _∙_}
+use mathlib.Core.List.{List}
+use Prim.Native.Nat.{ℕ}
+use Rattle.text.proofs.Cases.{never}
+use Rattle.ast.specs.declared.Leaf.{Leaf}
+use Rattle.ast.specs.declared.Shape.{Shape}
+use Rattle.ast.specs.Shape.{fields, fieldsOf, shapeOf}
+use Rattle.ast.specs.Store.{recordAt}
+use Rattle.ast.specs.Tree.{Node, leaf, one, two, three, row, matrix}
+use Rattle.ast.specs.Held.{count, holds}
+use Rattle.ast.proofs.ShapeLaws.{shape-back}
+
+-- the kind of a tree's root
+abbrev pub kindOf : Node → Shape
+kindOf (leaf l) = Shape.Leaf l
+kindOf (one k a) = Shape.One k
+kindOf (two k a b) = Shape.Two k
+kindOf (three k a b c) = Shape.Three k
+kindOf (row ns) = Shape.Row (count ns)
+kindOf (matrix align ns) = Shape.Matrix align (count ns)
+
+-- the root's record has the numbers of its kind
+pub kind-held : (st : List ℕ) (lo i : ℕ) (t : Node) → holds st lo i t → fieldsOf (recordAt st i) ≡ fields (kindOf t)
+kind-held st lo i (leaf l) h = h .1 .kind
+kind-held st lo i (one k a) h = h .1 .stands .kind
+kind-held st lo i (two k a b) h = h .1 .stands .kind
+kind-held st lo i (three k a b c) h = h .1 .stands .kind
+kind-held st lo i (row ns) h = h .1 .stands .kind
+kind-held st lo i (matrix align ns) h = h .1 .stands .kind
+
+-- so what is read there is the kind
+pub shape-held : (st : List ℕ) (lo i : ℕ) (t : Node) → holds st lo i t → shapeOf (fieldsOf (recordAt st i)) ≡ kindOf t
+shape-held st lo i t h = ap (λ f. shapeOf f) (kind-held st lo i t h) ∙ shape-back (kindOf t)
+
+-- a tree whose kind is a leaf's is that leaf
+pub leaf-of : (t : Node) (l : Leaf) → kindOf t ≡ Shape.Leaf l → t ≡ leaf l
+leaf-of (leaf m) l e = let q : m ≡ l = cc in ap (λ n. leaf n) q
+leaf-of (one k a) l e = never cc
+leaf-of (two k a b) l e = never cc
+leaf-of (three k a b c) l e = never cc
+leaf-of (row ns) l e = never cc
+leaf-of (matrix align ns) l e = never cc
