@@ -2,6 +2,7 @@
 use crate::Fields;
 use crate::Leaf;
 use crate::One;
+use crate::Record;
 use crate::Shape;
 use crate::Stretched;
 use crate::Three;
@@ -10,7 +11,7 @@ use attribute::codes as attributes;
 use token::Undefined;
 ghost use mathlib.Core.Path.{_≡_};
 ghost use Prim.Native.Nat.{_^_, _<_};
-ghost use Rattle.ast.specs.Shape.{numbers, leafFields, oneFields, twoFields, threeFields, fields, shapeOf, Placed, PlacedShape};
+ghost use Rattle.ast.specs.Shape.{numbers, leafFields, oneFields, twoFields, threeFields, fields, shapeOf, fieldsOf, Placed, PlacedShape};
 
 fn numbers(tag: u8, attr: u8, x: u32, y: u32) -> Fields
     ensures { λ r. ⌜ r ≡ numbers tag attr x y ⌝ }
@@ -169,4 +170,16 @@ pub fn shape(f: Fields) -> Shape
         35 => Shape::Row(x),
         _ => Shape::Matrix(attributes::column_align_of(attr), x),
     }
+}
+
+// The node that a record is.
+pub fn shape_of(r: Record) -> Shape
+    ensures { λ k. ⌜ k ≡ shapeOf (fieldsOf r) ⌝ }
+{
+    shape(Fields {
+        tag: r.tag,
+        attr: r.attr,
+        x: r.x,
+        y: r.y,
+    })
 }

@@ -1,0 +1,5 @@
+pub mod PieceLaws
+pub mod ShownLaws
+pub mod PartsLaws
+pub mod RowLaws
+pub mod TreeLaws

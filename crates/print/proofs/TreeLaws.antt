@@ -1,0 +1,130 @@
+-- Which tree stands at a record, and where its parts stand.
+-- Assumes nothing.
+use mathlib.Core.Path.{_≡_, refl, sym, ap, _∙_, subst}
+use mathlib.Core.List.{List}
+use Prim.Native.Nat.{ℕ, _+_, _-_, _*_, _≤_, _<_}
+use native.Mathlib.Omega.{arith}
+use lib.ListN.{length}
+use Rattle.ast.specs.declared.Record.{Record}
+use Rattle.ast.specs.declared.Shape.{Shape}
+use Rattle.ast.specs.Shape.{fieldsOf, shapeOf}
+use Rattle.ast.specs.Store.{recordAt}
+use Rattle.ast.specs.Tree.{Node, leaf, one, two, three, row, matrix, Nodes}
+use Rattle.ast.specs.Held.{Part, Rowed, count, holds, holdsAll}
+use Rattle.ast.proofs.KindLaws.{kindOf, shape-held}
+use Rattle.ast.specs.Inside.{LeafInside, TreeInside, AllInside}
+use Rattle.markup.specs.Print.{slash, cell, print}
+use Rattle.print.specs.declared.Place.{Place}
+use Rattle.print.specs.Shown.{shown, TreeAt, TwoAt, ThreeAt, NodesAt}
+use Rattle.print.proofs.PieceLaws.{Same, Like}
+use Rattle.print.proofs.ShownLaws.{by-place}
+
+-- what stands under a root of a kind
+abbrev pub Content : Shape → Type 0
+Content (Shape.Leaf l) = Unit {0}
+Content (Shape.One k) = Node
+Content (Shape.Two k) = Node × Node
+Content (Shape.Three k) = Node × (Node × Node)
+Content (Shape.Row n) = Nodes
+Content (Shape.Matrix align n) = Nodes
+
+-- it stands where the root's record r says
+abbrev pub ContentAt : List ℕ → List ℕ → ℕ → Record → (k : Shape) → Content k → Type 0
+ContentAt s st left r (Shape.Leaf l) u = LeafInside (length s) l
+ContentAt s st left r (Shape.One k) a = TreeAt s st left (r .a) a
+ContentAt s st left r (Shape.Two k) t = TwoAt s st left (r .a) (r .b) t
+ContentAt s st left r (Shape.Three k) t = ThreeAt s st left (r .a) (r .b) (r .c) t
+ContentAt s st left r (Shape.Row n) ns = NodesAt s st left (r .a) n ns
+ContentAt s st left r (Shape.Matrix align n) ns = NodesAt s st left (r .a) n ns
+
+-- the markup of the whole node
+abbrev pub contentText : List ℕ → Place → (k : Shape) → Content k → List ℕ
+contentText s place (Shape.Leaf l) u = shown place s (leaf l)
+contentText s place (Shape.One k) a = print s (one k a)
+contentText s place (Shape.Two k) t = print s (two k (t .0) (t .1))
+contentText s place (Shape.Three k) t = print s (three k (t .0) (t .1 .0) (t .1 .1))
+contentText s place (Shape.Row n) ns = print s (row ns)
+contentText s place (Shape.Matrix align n) ns = print s (matrix align ns)
+
+-- the content of a root of the kind k stands where the record at i says, and with it the tree t has its markup
+abbrev Stood : List ℕ → List ℕ → ℕ → ℕ → Place → Node → Shape → Type 0
+Stood s st left i place t k =
+    Same (ContentAt s st (left - 1) (recordAt st i) k) (contentText s place k) (shown place s t)
+
+-- a part stands where the root's record says, below `left - 1`
+part-at : {s st : List ℕ} {left i j x : ℕ} (lo : ℕ) (t : Node) → i < left → i * 24 + 24 ≤ length st → j ≡ x → Part (λ y. holds st lo y t) i x
+    → TreeInside (length s) t → TreeAt s st (left - 1) j t
+part-at lo t near fits e p inside =
+    let b = p .below in
+    record { lo = lo; held = rw e (p .here); inside = inside; near = omega arith; fits = omega arith }
+
+-- .. and so do the nodes of a row
+row-at : {s st : List ℕ} {left i : ℕ} {k : Shape} (lo : ℕ) (ns : Nodes) → i < left → i * 24 + 24 ≤ length st → Rowed st (λ f p l. holdsAll st lo f p l i ns) i k
+    → AllInside (length s) ns → NodesAt s st (left - 1) (recordAt st i .a) (count ns) ns
+row-at {i} lo ns near fits o inside = record {
+  lo = lo;
+  prev = o .p;
+  last = o .l;
+  hi = i;
+  held = rw (o .stands .a) (o .nodes);
+  many = refl;
+  inside = inside;
+  near = omega arith;
+  fits = omega arith;
+}
+
+-- the content of every tree stands so
+stood : (s st : List ℕ) (left i : ℕ) (place : Place) (t : Node) → TreeAt s st left i t → Stood s st left i place t (kindOf t)
+unfolding shown slash cell
+stood s st left i place (leaf l) h = record { what = tt; there = h .inside; same = refl }
+stood s st left i place (one k a) h =
+    let o = h .held .1 in
+    record {
+      what = a;
+      there = part-at (h .lo) a (h .near) (h .fits) (o .stands .a) (o .first) (h .inside);
+      same = by-place (λ p. shown p s (one k a) ≡ print s (one k a)) place refl refl refl;
+    }
+stood s st left i place (two k a b) h =
+    let o = h .held .1 in
+    record {
+      what = (a, b);
+      there = record {
+        first = part-at (h .lo) a (h .near) (h .fits) (o .stands .a) (o .first) (h .inside .0);
+        second = part-at (h .lo) b (h .near) (h .fits) (o .stands .b) (o .second) (h .inside .1);
+      };
+      same = by-place (λ p. shown p s (two k a b) ≡ print s (two k a b)) place refl refl refl;
+    }
+stood s st left i place (three k a b c) h =
+    let o = h .held .1 in
+    record {
+      what = (a, (b, c));
+      there = record {
+        first = part-at (h .lo) a (h .near) (h .fits) (o .stands .a) (o .first) (h .inside .0);
+        second = record {
+          first = part-at (h .lo) b (h .near) (h .fits) (o .stands .b) (o .second) (h .inside .1);
+          second = part-at (h .lo) c (h .near) (h .fits) (o .stands .c) (o .third) (h .inside .2);
+        };
+      };
+      same = by-place (λ p. shown p s (three k a b c) ≡ print s (three k a b c)) place refl refl refl;
+    }
+stood s st left i place (row ns) h =
+    record {
+      what = ns;
+      there = row-at (h .lo) ns (h .near) (h .fits) (h .held .1) (h .inside);
+      same = by-place (λ p. shown p s (row ns) ≡ print s (row ns)) place refl refl refl;
+    }
+stood s st left i place (matrix align ns) h =
+    record {
+      what = ns;
+      there = row-at (h .lo) ns (h .near) (h .fits) (h .held .1) (h .inside);
+      same = by-place (λ p. shown p s (matrix align ns) ≡ print s (matrix align ns)) place refl refl refl;
+    }
+
+-- whatever tree stands at i, its content is of the kind k that the record r there has
+pub of-kind : {s st : List ℕ} {left i : ℕ} {r : Record} {q : Shape} (place : Place) (k : Shape) → r ≡ recordAt st i → q ≡ shapeOf (fieldsOf r) → q ≡ k
+    → Like (TreeAt s st left i) (shown place s) (ContentAt s st (left - 1) r k) (contentText s place k)
+of-kind {s} {st} {left} {i} place k e f g = record {
+  of = λ t h.
+      let is : kindOf t ≡ k = sym (shape-held st (h .lo) i t (h .held)) ∙ ap (λ x. shapeOf (fieldsOf x)) (sym e) ∙ sym f ∙ g in
+      rw e (subst (Stood s st left i place t) is (stood s st left i place t h));
+}

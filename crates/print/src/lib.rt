@@ -1,0 +1,228 @@
+// The printer: a tree of the store is printed by recursion over its records. What is printed is counted or, where `write` is true,
+// written.
+use ast::Leaf;
+use ast::One;
+use ast::Shape;
+use ast::Three;
+use ast::Two;
+use ast::codes::shape_of;
+use ast::store::get_next;
+use ast::store::get_record;
+use attribute::ColumnAlign;
+use attribute::put_column_align;
+use markup::fronts::put_back_one;
+use markup::fronts::put_back_three;
+use markup::fronts::put_back_two;
+use markup::fronts::put_front_one;
+use markup::fronts::put_front_three;
+use markup::fronts::put_front_two;
+use markup::leaf::put_cell_leaf;
+use markup::leaf::put_leaf;
+use markup::leaf::put_slashed_leaf;
+use text::put::put;
+ghost use mathlib.Core.Path.{_≡_};
+ghost use mathlib.Core.List.{_++_};
+ghost use lib.ListN.{length};
+ghost use Rattle.text.specs.Text.{bytes};
+ghost use Rattle.text.specs.Put.{Room, Puts};
+ghost use Rattle.attribute.specs.Names.{columnAlign};
+ghost use Rattle.ast.specs.Tree.{Node};
+ghost use Rattle.ast.specs.Inside.{LeafInside};
+ghost use Rattle.markup.specs.Print.{print};
+ghost use Rattle.print.specs.Shown.{placeOf, shown, shownAll, TreeAt, TwoAt, ThreeAt, NodesAt, Printable, Prints};
+
+// Where a node is printed: by itself, under a slash, or as a direct part of a matrix.
+pub enum Place {
+    Plain,
+    Slashed,
+    Cell,
+}
+
+// Where the part of a node with one part is printed.
+fn place_of(k: One) -> Place
+    ensures { λ r. ⌜ r ≡ placeOf k ⌝ }
+{
+    match k {
+        One::OverOp(_, _) => Place::Plain,
+        One::UnderOp(_, _) => Place::Plain,
+        One::Sqrt => Place::Plain,
+        One::Fenced(_, _) => Place::Plain,
+        One::Slashed => Place::Slashed,
+        One::Style(_) => Place::Plain,
+    }
+}
+
+// Puts a leaf as it is printed at a place.
+fn put_leaf_at(place: Place, s: &[u8], l: Leaf, out: &mut [u8], at: usize, write: bool) -> usize
+    requires { ⌜ LeafInside (length (now s)) l × Room write (now out) at (length (shown place (now s) (Node.leaf l))) ⌝ }
+    ensures { λ r. ⌜ Puts write (now (out .entry)) (now (out .exit)) at (shown place (now (s .entry)) (Node.leaf l)) r ⌝ }
+{
+    match place {
+        Place::Plain => put_leaf(s, l, out, at, write),
+        Place::Slashed => put_slashed_leaf(s, l, out, at, write),
+        Place::Cell => put_cell_leaf(s, l, out, at, write),
+    }
+}
+
+// Puts what stands before the nodes of a matrix.
+fn put_front_matrix(align: ColumnAlign, out: &mut [u8], at: usize, write: bool) -> usize
+    requires { ⌜ Room write (now out) at (length (bytes "<mtable" ++ bytes (columnAlign align) ++ bytes "><mtr><mtd>")) ⌝ }
+    ensures { λ r. ⌜ Puts write (now (out .entry)) (now (out .exit)) at (bytes "<mtable" ++ bytes (columnAlign align) ++ bytes "><mtr><mtd>") r ⌝ }
+{
+    let name = put(b"<mtable", out, at, write);
+    let end = put_column_align(align, out, name, write);
+    put(b"><mtr><mtd>", out, end, write)
+}
+
+// Prints the node at an index below `left`. Its parts stand before it, so they are below `left - 1`.
+pub fn print_node(
+    place: Place,
+    s: &[u8],
+    store: &[u8],
+    i: usize,
+    left: usize,
+    out: &mut [u8],
+    at: usize,
+    write: bool,
+) -> usize
+    requires { ⌜ Printable (TreeAt (now s) (now store) left i) (shown place (now s)) write (now out) at ⌝ }
+    ensures { λ r. ⌜ Prints (TreeAt (now (s .entry)) (now (store .entry)) left i) (shown place (now (s .entry))) write (now (out .entry)) (now (out .exit)) at r ⌝ }
+{
+    let r = get_record(store, i);
+    match shape_of(r) {
+        Shape::Leaf(l) => put_leaf_at(place, s, l, out, at, write),
+        Shape::One(k) => print_one(k, s, store, r.a, left - 1, out, at, write),
+        Shape::Two(k) => print_two(k, s, store, r.a, r.b, left - 1, out, at, write),
+        Shape::Three(k) => print_three(k, s, store, r.a, r.b, r.c, left - 1, out, at, write),
+        Shape::Row(n) => print_row(s, store, r.a, n, left - 1, out, at, write),
+        Shape::Matrix(align, n) => print_matrix(align, s, store, r.a, n, left - 1, out, at, write),
+    }
+}
+
+// Prints a node with one part, at the index a.
+fn print_one(
+    k: One,
+    s: &[u8],
+    store: &[u8],
+    a: usize,
+    left: usize,
+    out: &mut [u8],
+    at: usize,
+    write: bool,
+) -> usize
+    requires { ⌜ Printable (TreeAt (now s) (now store) left a) (λ t. print (now s) (Node.one k t)) write (now out) at ⌝ }
+    ensures { λ r. ⌜ Prints (TreeAt (now (s .entry)) (now (store .entry)) left a) (λ t. print (now (s .entry)) (Node.one k t)) write (now (out .entry)) (now (out .exit)) at r ⌝ }
+{
+    let first = put_front_one(k, out, at, write);
+    let end = print_node(place_of(k), s, store, a, left, out, first, write);
+    put_back_one(k, out, end, write)
+}
+
+// Prints a node with two parts, at the indices a and b.
+fn print_two(
+    k: Two,
+    s: &[u8],
+    store: &[u8],
+    a: usize,
+    b: usize,
+    left: usize,
+    out: &mut [u8],
+    at: usize,
+    write: bool,
+) -> usize
+    requires { ⌜ Printable (TwoAt (now s) (now store) left a b) (λ t. print (now s) (Node.two k (t .0) (t .1))) write (now out) at ⌝ }
+    ensures { λ r. ⌜ Prints (TwoAt (now (s .entry)) (now (store .entry)) left a b) (λ t. print (now (s .entry)) (Node.two k (t .0) (t .1))) write (now (out .entry)) (now (out .exit)) at r ⌝ }
+{
+    let first = put_front_two(k, out, at, write);
+    let second = print_node(Place::Plain, s, store, a, left, out, first, write);
+    let end = print_node(Place::Plain, s, store, b, left, out, second, write);
+    put_back_two(k, out, end, write)
+}
+
+// Prints a node with three parts, at the indices a, b and c.
+fn print_three(
+    k: Three,
+    s: &[u8],
+    store: &[u8],
+    a: usize,
+    b: usize,
+    c: usize,
+    left: usize,
+    out: &mut [u8],
+    at: usize,
+    write: bool,
+) -> usize
+    requires { ⌜ Printable (ThreeAt (now s) (now store) left a b c) (λ t. print (now s) (Node.three k (t .0) (t .1 .0) (t .1 .1))) write (now out) at ⌝ }
+    ensures { λ r. ⌜ Prints (ThreeAt (now (s .entry)) (now (store .entry)) left a b c) (λ t. print (now (s .entry)) (Node.three k (t .0) (t .1 .0) (t .1 .1))) write (now (out .entry)) (now (out .exit)) at r ⌝ }
+{
+    let first = put_front_three(k, out, at, write);
+    let second = print_node(Place::Plain, s, store, a, left, out, first, write);
+    let third = print_node(Place::Plain, s, store, b, left, out, second, write);
+    let end = print_node(Place::Plain, s, store, c, left, out, third, write);
+    put_back_three(k, out, end, write)
+}
+
+// Prints a row of n nodes, the first of them at the index a.
+fn print_row(
+    s: &[u8],
+    store: &[u8],
+    a: usize,
+    n: u32,
+    left: usize,
+    out: &mut [u8],
+    at: usize,
+    write: bool,
+) -> usize
+    requires { ⌜ Printable (NodesAt (now s) (now store) left a n) (λ ns. print (now s) (Node.row ns)) write (now out) at ⌝ }
+    ensures { λ r. ⌜ Prints (NodesAt (now (s .entry)) (now (store .entry)) left a n) (λ ns. print (now (s .entry)) (Node.row ns)) write (now (out .entry)) (now (out .exit)) at r ⌝ }
+{
+    let first = put(b"<mrow>", out, at, write);
+    let end = print_nodes(Place::Plain, s, store, a, n, left, out, first, write);
+    put(b"</mrow>", out, end, write)
+}
+
+// Prints a matrix of n nodes, the first of them at the index a.
+fn print_matrix(
+    align: ColumnAlign,
+    s: &[u8],
+    store: &[u8],
+    a: usize,
+    n: u32,
+    left: usize,
+    out: &mut [u8],
+    at: usize,
+    write: bool,
+) -> usize
+    requires { ⌜ Printable (NodesAt (now s) (now store) left a n) (λ ns. print (now s) (Node.matrix align ns)) write (now out) at ⌝ }
+    ensures { λ r. ⌜ Prints (NodesAt (now (s .entry)) (now (store .entry)) left a n) (λ ns. print (now (s .entry)) (Node.matrix align ns)) write (now (out .entry)) (now (out .exit)) at r ⌝ }
+{
+    let first = put_front_matrix(align, out, at, write);
+    let end = print_nodes(Place::Cell, s, store, a, n, left, out, first, write);
+    put(b"</mtd></mtr></mtable>", out, end, write)
+}
+
+// Prints n nodes, each the next of the one before, from the index a on; all are below `left`.
+pub fn print_nodes(
+    place: Place,
+    s: &[u8],
+    store: &[u8],
+    a: usize,
+    n: u32,
+    left: usize,
+    out: &mut [u8],
+    at: usize,
+    write: bool,
+) -> usize
+    requires { ⌜ Printable (NodesAt (now s) (now store) left a n) (shownAll place (now s)) write (now out) at ⌝ }
+    ensures { λ r. ⌜ Prints (NodesAt (now (s .entry)) (now (store .entry)) left a n) (shownAll place (now (s .entry))) write (now (out .entry)) (now (out .exit)) at r ⌝ }
+{
+    let mut i = a;
+    let mut todo = n;
+    let mut end = at;
+    while 0 < todo {
+        end = print_node(place, s, store, i, left, out, end, write);
+        i = get_next(store, i);
+        todo -= 1;
+    }
+    end
+}
