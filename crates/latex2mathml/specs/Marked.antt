@@ -14,7 +14,7 @@ use Rattle.token.specs.Examples.{token-opens}
 use Rattle.lexer.specs.Examples.{lexer-opens}
 use Rattle.ast.specs.Tree.{ast-opens}
 use Rattle.markup.specs.Examples.{markup-opens}
-use Rattle.parse.specs.Examples.{parse-opens}
+use Rattle.parser.specs.Examples.{parse-opens}
 use Rattle.latex2mathml.specs.Outcome.{Outcome, bodyLimit, documentLimit, depthLimit, recordSize, _>>=_, refuse, numberOf, bytesOf}
 use Rattle.latex2mathml.specs.Translate.{convertContent, latexToMathml, storeTooSmall, translate}
 use Rattle.latex2mathml.specs.Replace.{dollar, twoDollars, threeDollars, places, odd, translateBody, substitute, firstPass, secondPass, replacement, Replaced, replaceOutcome, replace}

@@ -11,7 +11,7 @@ use Rattle.attribute.specs.declared.DisplayStyle.{DisplayStyle}
 use Rattle.attribute.specs.Names.{displayStyle}
 use Rattle.error.specs.declared.Refusal.{Refusal}
 use Rattle.markup.specs.Print.{printAll}
-use Rattle.parse.specs.Parse.{Parsed, parse}
+use Rattle.parser.specs.Parse.{Parsed, parse}
 use Rattle.latex2mathml.specs.Outcome.{Outcome, accepted, refused, _>>=_, refuse, bodyLimit, depthLimit, recordSize}
 
 unfoldable pub convertContent : List ℕ → Outcome (List ℕ)

@@ -101,6 +101,37 @@ within-some : (k : ℕ) (l : List ℕ) (c : ℕ) → letterOf (nextToken 0 l .to
 unfolding lettersWithin
 within-some k l c e = rw (lettersWithin, e)
 
+-- what the lexer reads of the part of t from i on is the next token there
+read-here : (t : List ℕ) (i : ℕ) (x : Lexeme) → x ≡ nextToken 0 (take (length t - i) (drop i t)) → x ≡ nextToken 0 (drop i t)
+read-here t i x is = is ∙ ap (nextToken 0) (take-all (length t - i) (drop i t) (omega (arith, length-drop i t)))
+
+-- the letters from i on end where the next token is none
+pub letters-end : (budget : ℕ) (t : List ℕ) (i : ℕ) (x : Lexeme) → x ≡ nextToken 0 (take (length t - i) (drop i t)) → letterOf (x .token) ≡ none
+    → lettersWithin budget (drop i t) ≡ []
+letters-end budget t i x is e = within-none budget (drop i t) (rw (read-here t i x is) at e)
+
+-- where it is a letter, it takes a byte or more, and the letters go on behind it
+module _ (t : List ℕ) (i : ℕ) (i-inside : i ≤ length t) (x : Lexeme) (is : x ≡ nextToken 0 (take (length t - i) (drop i t))) (c : ℕ) (v : Variant) (e : x .token ≡ Letter c v) where
+  here : x ≡ nextToken 0 (drop i t)
+  here = read-here t i x is
+
+  some-letter : letterOf (nextToken 0 (drop i t) .token) ≡ some c
+  unfolding letterOf
+  some-letter = ap letterOf (ap (λ y. y .token) (sym here) ∙ e)
+
+  pub letter-inside : (i < i + x .end) × (i + x .end ≤ length t)
+  letter-inside =
+      let byte : 1 ≤ x .end = rw (ap (λ y. y .end) here) (next-some (drop i t) c some-letter) in
+      let there : x .end ≤ length (drop i t) = rw (ap (λ y. y .end) here) (next-spans (drop i t) 0 zero-le .inside) in
+      let long = length-drop i t in
+      (omega arith, omega arith)
+
+  pub letters-on : (budget : ℕ) → length t ≤ i + budget → lettersWithin budget (drop i t) ≡ c ∷ lettersWithin (budget - 1) (drop (i + x .end) t)
+  letters-on budget enough =
+      let inside = letter-inside in
+      let more : budget ≡ suc (budget - 1) = omega arith in
+      ap (λ k. lettersWithin k (drop i t)) more ∙ rw (within-some (budget - 1) (drop i t) c some-letter, ← here, drop-drop (x .end) i t)
+
 -- on the way: the letters before the place i are put, and of those behind it the budget is enough
 pub record Reading (write : Bool) (o₀ o : List ℕ) (at place : ℕ) (t : List ℕ) (i : ℕ) : Type 0 where
   pub budget : ℕ
@@ -117,49 +148,24 @@ reading-none write o at t = record {
   putting = putting-none write o at (encodeAll (letters t));
 }
 
--- what the lexer reads of the part of t from i on is the next token there
-read-here : (t : List ℕ) (i : ℕ) (x : Lexeme) → x ≡ nextToken 0 (take (length t - i) (drop i t)) → x ≡ nextToken 0 (drop i t)
-read-here t i x is = is ∙ ap (nextToken 0) (take-all (length t - i) (drop i t) (omega (arith, length-drop i t)))
-
 -- where the next token is no letter, all letters are put
 pub reading-all : {write : Bool} {o₀ o : List ℕ} {at place : ℕ} {t : List ℕ} {i : ℕ} → Reading write o₀ o at place t i
     → (x : Lexeme) → x ≡ nextToken 0 (take (length t - i) (drop i t)) → letterOf (x .token) ≡ none → Puts write o₀ o at (encodeAll (letters t)) place
 unfolding encodeAll
-reading-all {t = t} {i} r x is e =
-    putting-all (rw (within-none (r .budget) (drop i t) (rw (read-here t i x is) at e), encodeAll) at (r .putting))
+reading-all {t = t} {i} r x is e = putting-all (rw (letters-end (r .budget) t i x is e, encodeAll) at (r .putting))
 
 -- where it is a letter, there is room for its character, and behind it the next is read
 module _ {write : Bool} {o₀ o : List ℕ} {at place : ℕ} {t : List ℕ} {i : ℕ} (room : Room write o₀ at (length (encodeAll (letters t)))) (r : Reading write o₀ o at place t i) (x : Lexeme) (is : x ≡ nextToken 0 (take (length t - i) (drop i t))) (c : ℕ) (v : Variant) (e : x .token ≡ Letter c v) where
-  here : x ≡ nextToken 0 (drop i t)
-  here = read-here t i x is
-
-  some-letter : letterOf (nextToken 0 (drop i t) .token) ≡ some c
-  unfolding letterOf
-  some-letter = ap letterOf (ap (λ y. y .token) (sym here) ∙ e)
-
-  pub letter-inside : (i < i + x .end) × (i + x .end ≤ length t)
-  letter-inside =
-      let byte : 1 ≤ x .end = rw (ap (λ y. y .end) here) (next-some (drop i t) c some-letter) in
-      let there : x .end ≤ length (drop i t) = rw (ap (λ y. y .end) here) (next-spans (drop i t) 0 zero-le .inside) in
-      let long = length-drop i t in
-      let low = r .inside in
-      (omega arith, omega arith)
-
   split : encodeAll (lettersWithin (r .budget) (drop i t)) ≡ encode c ++ encodeAll (lettersWithin (r .budget - 1) (drop (i + x .end) t))
   unfolding encodeAll
-  split =
-      let inside = letter-inside in
-      let enough = r .enough in
-      let more : r .budget ≡ suc (r .budget - 1) = omega arith in
-      ap (λ k. encodeAll (lettersWithin k (drop i t))) more
-      ∙ rw (within-some (r .budget - 1) (drop i t) c some-letter, encodeAll, ← here, drop-drop (x .end) i t)
+  split = rw (letters-on t i (r .inside) x is c v e (r .budget) (r .enough), encodeAll)
 
   pub reading-room : Room write o place (length (encode c))
   reading-room = putting-room (encode c) _ room (rw split at (r .putting))
 
   pub reading-more : {o′ : List ℕ} {place′ : ℕ} → Puts write o o′ place (encode c) place′ → Reading write o₀ o′ at place′ t (i + x .end)
   reading-more p =
-      let byte = letter-inside in
+      let byte = letter-inside t i (r .inside) x is c v e in
       let enough = r .enough in
       record {
         budget = r .budget - 1;

@@ -47,7 +47,7 @@ add-i c = search needs
 
 loop-less : tie.Need-loop-less Inv-loop μ-loop
 loop-less c =
-    let inside = letter-inside (c .before .before .before .before .before .before .before .before .before .before .before .before .before .pre) ((c .before .before .before .before .before .before .before .before .before .before .loop) .inv) ((c .before .before .before .before .before .before .before .before .next-token) .result) ((c .before .before .before .before .before .before .before .before .next-token) .ensures .0) _ _ ((c .before .before .before .before .before .before .token) .given .1) in
+    let inside = letter-inside ((c .before .before .before .before .before .before .before .before .before .before .before .before .before .args) .t .now) ((c .before .before .before .before .before .before .before .before .before .before .loop) .i) ((c .before .before .before .before .before .before .before .before .before .before .loop) .inv .inside) ((c .before .before .before .before .before .before .before .before .next-token) .result) ((c .before .before .before .before .before .before .before .before .next-token) .ensures .0) _ _ ((c .before .before .before .before .before .before .token) .given .1) in
     omega arith
 
 loop-again : tie.Need-loop-again Inv-loop μ-loop

@@ -16,13 +16,13 @@ use Rattle.lexer.specs.Examples.{lexer-opens}
 use Rattle.ast.specs.declared.Leaf.{Leaf}
 use Rattle.ast.specs.declared.Two.{Two}
 use Rattle.ast.specs.Tree.{Node, leaf, two, Nodes, empty, _then_, ast-opens}
-use Rattle.parse.specs.State.{startsWithDigit, following, next, new, pastLetters, parseText}
-use Rattle.parse.specs.Environment.{environments, environment}
-use Rattle.parse.specs.Parse.{Parsed, made, refused, _>>=_, build, grouped, groupUpTo, parseGroup, parseSqrt, parseTwo, binomial, finishBinom, parseOne, parseBrace, parseLimits, parseBigOp, parseIntegral, parseLim, parseSlashed, parseStyle, withFence, parseLeft, stretchLeaf, stretch, parseMiddle, parseBig, opened, inEnvironment, parseBegin, parseTextLeaf, parseBare, singleStep, script, nodeStep, parseNode, nodesUpTo, parse}
+use Rattle.parser.specs.State.{startsWithDigit, following, next, new, pastLetters, parseText}
+use Rattle.parser.specs.Environment.{environments, environment}
+use Rattle.parser.specs.Parse.{Parsed, made, refused, _>>=_, build, grouped, groupUpTo, parseGroup, parseSqrt, binomial, ofPair, parseTwo, parseOne, parseBrace, operator, withBelow, withAbove, withBoth, parseLimits, parseLim, parseSlashed, parseStyle, withFence, fenced, parseLeft, stretchLeaf, stretch, stretched, parseMiddle, sized, parseBig, opened, inEnvironment, parseBegin, parseTextLeaf, parseBare, primed, singleStep, script, nodeStep, parseNode, nodesUpTo, parse}
 
 -- whoever unfolds this unfolds all definitions of this crate, as an example has to
 unfoldable pub parse-opens : Unit {0}
-unfolding startsWithDigit following next new pastLetters parseText environments environment _>>=_ build grouped groupUpTo parseGroup parseSqrt parseTwo binomial finishBinom parseOne parseBrace parseLimits parseBigOp parseIntegral parseLim parseSlashed parseStyle withFence parseLeft stretchLeaf stretch parseMiddle parseBig opened inEnvironment parseBegin parseTextLeaf parseBare singleStep script nodeStep parseNode nodesUpTo parse
+unfolding startsWithDigit following next new pastLetters parseText environments environment _>>=_ build grouped groupUpTo parseGroup parseSqrt binomial ofPair parseTwo parseOne parseBrace operator withBelow withAbove withBoth parseLimits parseLim parseSlashed parseStyle withFence fenced parseLeft stretchLeaf stretch stretched parseMiddle sized parseBig opened inEnvironment parseBegin parseTextLeaf parseBare primed singleStep script nodeStep parseNode nodesUpTo parse
 parse-opens = tt
 
 -- the nodes of a body alone, or why it is refused

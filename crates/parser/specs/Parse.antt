@@ -7,6 +7,7 @@ use mathlib.Core.Option.{Option, none, some}
 use Prim.Native.Nat.{ℕ, zero, suc, _+_}
 use Prim.Native.Char.{code}
 use lib.ListN.{length}
+use Rattle.text.specs.Text.{part}
 use Rattle.attribute.specs.declared.Variant.{Variant}
 use Rattle.attribute.specs.declared.Accent.{Accent}
 use Rattle.attribute.specs.declared.LineThickness.{LineThickness}
@@ -24,9 +25,13 @@ use Rattle.ast.specs.declared.One.{One}
 use Rattle.ast.specs.declared.Two.{Two}
 use Rattle.ast.specs.declared.Three.{Three}
 use Rattle.ast.specs.Tree.{Node, leaf, one, two, three, row, matrix, Nodes, empty, _then_, snoc, setVariant}
-use Rattle.parse.specs.declared.Parser.{Parser}
-use Rattle.parse.specs.State.{next, new, curIs, peekIs, TextRead, parseText}
-use Rattle.parse.specs.Environment.{Environment, environment}
+use Rattle.parser.specs.declared.Parser.{Parser}
+use Rattle.parser.specs.declared.TextRead.{TextRead}
+use Rattle.parser.specs.declared.Environment.{Environment}
+use Rattle.parser.specs.declared.Pair.{Pair}
+use Rattle.parser.specs.declared.Limits.{Limits}
+use Rattle.parser.specs.State.{next, new, curIs, peekIs, parseText}
+use Rattle.parser.specs.Environment.{environment}
 
 -- what a function of the parser gives: a value and the state after it, or a refusal
 pub data Parsed (A : Type 0) : Type 0 where
@@ -89,20 +94,23 @@ parseSqrt node s p =
         build 1 (one One.Sqrt content) r
     ]
 
--- an arm with two operands, of which `finish` makes the node
-unfoldable pub parseTwo : Reads → List ℕ → (Node → Node → Reads) → Reads
-parseTwo node s finish p = do
-  (a, q) ← node (next s p)
-  (b, r) ← node (next s q)
-  finish a b r
-
 -- a fraction without a line, between parentheses
 unfoldable pub binomial : Node → Node → Node
 binomial a b = one (One.Fenced (text "(") (text ")")) (two (Two.Frac LineThickness.Zero) a b)
 
-unfoldable pub finishBinom : Binomial → Node → Node → Reads
-finishBinom Binomial.Plain a b p = build 2 (binomial a b) p
-finishBinom (Binomial.Styled display) a b p = build 4 (one (One.Style display) (row (binomial a b then empty))) p
+-- the node of a command with two operands: of `\overset` and `\underset` the second is the target
+unfoldable pub ofPair : Pair → Node → Node → Reads
+ofPair Pair.Frac a b p = build 1 (two (Two.Frac LineThickness.Medium) a b) p
+ofPair (Pair.Binom Binomial.Plain) a b p = build 2 (binomial a b) p
+ofPair (Pair.Binom (Binomial.Styled display)) a b p = build 4 (one (One.Style display) (row (binomial a b then empty))) p
+ofPair Pair.Overset a b p = build 1 (two Two.Overset b a) p
+ofPair Pair.Underset a b p = build 1 (two Two.Underset b a) p
+
+unfoldable pub parseTwo : Reads → List ℕ → Pair → Reads
+parseTwo node s kind p = do
+  (a, q) ← node (next s p)
+  (b, r) ← node (next s q)
+  ofPair kind a b r
 
 -- an arm with one operand, of which `kind` makes the node
 unfoldable pub parseOne : Reads → List ℕ → One → Reads
@@ -121,17 +129,34 @@ parseBrace single s kind mark x p = do
     | false ↦ build 2 (two kind target (leaf (Leaf.Operator x))) q
   ]
 
--- an operator with what stands below and above it, in either order: `both`, `below` and `above` make the node
-unfoldable pub parseLimits : Reads → List ℕ → (Node → Node → Reads) → (Node → Reads) → (Node → Reads) → Node → Reads
-parseLimits single s both below above target p =
+-- an operator with limits: alone, with what stands below it, with what stands above it, and with both
+unfoldable pub operator : Limits → Node
+operator (Limits.BigOp c) = leaf (Leaf.Operator c)
+operator (Limits.Integral c) = leaf (Leaf.Operator c)
+
+unfoldable pub withBelow : Limits → Node → Reads
+withBelow (Limits.BigOp c) under p = build 2 (two Two.Under (leaf (Leaf.Operator c)) under) p
+withBelow (Limits.Integral c) sub p = build 2 (two Two.Subscript (leaf (Leaf.Operator c)) sub) p
+
+unfoldable pub withAbove : Limits → Node → Reads
+withAbove (Limits.BigOp c) over p = build 1 (one (One.OverOp c Accent.False) over) p
+withAbove (Limits.Integral c) sup p = build 2 (two Two.Superscript (leaf (Leaf.Operator c)) sup) p
+
+unfoldable pub withBoth : Limits → Node → Node → Reads
+withBoth (Limits.BigOp c) under over p = build 2 (three Three.UnderOver (leaf (Leaf.Operator c)) under over) p
+withBoth (Limits.Integral c) sub sup p = build 2 (three Three.SubSup (leaf (Leaf.Operator c)) sub sup) p
+
+-- what stands below and above, in either order
+unfoldable pub parseLimits : Reads → List ℕ → Limits → Reads
+parseLimits single s kind p =
     elim (peekIs p Mark.Underscore) [
       | true ↦ do
         (under, q) ← single (next s (next s p))
         elim (peekIs q Mark.Circumflex) [
           | true ↦ do
             (over, r) ← single (next s (next s q))
-            both under over r
-          | false ↦ below under q
+            withBoth kind under over r
+          | false ↦ withBelow kind under q
         ]
       | false ↦
           elim (peekIs p Mark.Circumflex) [
@@ -140,30 +165,12 @@ parseLimits single s both below above target p =
               elim (peekIs q Mark.Underscore) [
                 | true ↦ do
                   (under, r) ← single (next s (next s q))
-                  both under over r
-                | false ↦ above over q
+                  withBoth kind under over r
+                | false ↦ withAbove kind over q
               ]
-            | false ↦ build 1 target p
+            | false ↦ build 1 (operator kind) p
           ]
     ]
-
-unfoldable pub parseBigOp : Reads → List ℕ → ℕ → Reads
-parseBigOp single s c p =
-    let op : Node = leaf (Leaf.Operator c) in
-    parseLimits single s
-    (λ under over. build 2 (three Three.UnderOver op under over))
-    (λ under. build 2 (two Two.Under op under))
-    (λ over. build 1 (one (One.OverOp c Accent.False) over))
-    op p
-
-unfoldable pub parseIntegral : Reads → List ℕ → ℕ → Reads
-parseIntegral single s c p =
-    let op : Node = leaf (Leaf.Operator c) in
-    parseLimits single s
-    (λ sub sup. build 2 (three Three.SubSup op sub sup))
-    (λ sub. build 2 (two Two.Subscript op sub))
-    (λ sup. build 2 (two Two.Superscript op sup))
-    op p
 
 unfoldable pub parseLim : Reads → List ℕ → ℕ → Reads
 parseLim single s t p =
@@ -185,17 +192,21 @@ parseStyle node s v p = do
   (n, q) ← node (next s p)
   made (setVariant v n) q
 
--- the text of the fence that is the current token
-unfoldable pub withFence : Parser → (ℕ → Parsed Node) → Parsed Node
-withFence p k = elim (fenceOf (p .cur .token)) [ none ↦ refused Refusal.MissingParensethis | some t ↦ k t ]
+-- with the text of a fence
+unfoldable pub withFence : Option ℕ → (ℕ → Parsed Node) → Parsed Node
+withFence none k = refused Refusal.MissingParensethis
+withFence (some t) k = k t
+
+-- a node between fences, of which the second is the current token
+unfoldable pub fenced : ℕ → Node → Reads
+fenced first content p = withFence (fenceOf (p .cur .token)) (λ close. build 1 (one (One.Fenced first close) content) p)
 
 unfoldable pub parseLeft : Reads → List ℕ → Reads
 parseLeft node s p =
     let begin : Parser = next s p in
-    withFence begin (λ open′. do
+    withFence (fenceOf (begin .cur .token)) (λ first. do
       (content, q) ← parseGroup node s Mark.Right begin
-      let after = next s q
-      withFence after (λ close. build 1 (one (One.Fenced open′ close) content) after))
+      fenced first content (next s q))
 
 -- what `\middle` makes of its operand
 unfoldable pub stretchLeaf : Leaf → Option Stretched
@@ -221,18 +232,23 @@ stretch (three k a b c) = none
 stretch (row ns) = none
 stretch (matrix align ns) = none
 
+unfoldable pub stretched : Option Stretched → Reads
+stretched none p = refused Refusal.MiddleOperand
+stretched (some o) p = build 1 (leaf (Leaf.StrechedOp o)) p
+
 unfoldable pub parseMiddle : Reads → List ℕ → Reads
 parseMiddle single s p = do
   (n, q) ← single (next s p)
-  elim (stretch n) [ none ↦ refused Refusal.MiddleOperand | some o ↦ build 1 (leaf (Leaf.StrechedOp o)) q ]
+  stretched (stretch n) q
+
+unfoldable pub sized : ℕ → Option ℕ → Reads
+sized size none p = refused Refusal.UnexpectedToken
+sized size (some paren) p = build 1 (leaf (Leaf.SizedParen size paren)) p
 
 unfoldable pub parseBig : List ℕ → ℕ → Reads
 parseBig s size p =
     let after : Parser = next s p in
-    elim (parenOf (after .cur .token)) [
-      | none ↦ refused Refusal.UnexpectedToken
-      | some paren ↦ build 1 (leaf (Leaf.SizedParen size paren)) after
-    ]
+    sized size (parenOf (after .cur .token)) after
 
 -- a row opened for its nodes, or the one node
 unfoldable pub opened : Node → Nodes
@@ -244,8 +260,9 @@ opened (row ns) = ns
 opened (matrix align ns) = matrix align ns then empty
 
 unfoldable pub inEnvironment : Environment → Nodes → Reads
-inEnvironment (Environment.bare align) ns p = build 1 (matrix align ns) p
-inEnvironment (Environment.between t u) ns p = build 2 (one (One.Fenced t u) (matrix ColumnAlign.Center ns)) p
+inEnvironment Environment.Unknown ns p = refused Refusal.UnknownEnvironment
+inEnvironment (Environment.Bare align) ns p = build 1 (matrix align ns) p
+inEnvironment (Environment.Between t u) ns p = build 2 (one (One.Fenced t u) (matrix ColumnAlign.Center ns)) p
 
 -- the environment is looked up after its content is read, and the name behind `\end` is passed unseen
 unfoldable pub parseBegin : Reads → List ℕ → Reads
@@ -253,10 +270,7 @@ parseBegin node s p =
     let name : TextRead = parseText s (next s p) in
     do
       (content, q) ← parseGroup node s Mark.End (name .after)
-      elim (environment s (name .a) (name .e)) [
-        | none ↦ refused Refusal.UnknownEnvironment
-        | some env ↦ inEnvironment env (opened content) (parseText s (next s q) .after)
-      ]
+      inEnvironment (environment (part (name .a) (name .e) s)) (opened content) (parseText s (next s q) .after)
 
 -- a leaf whose text is read by parse_text
 unfoldable pub parseTextLeaf : List ℕ → (ℕ → ℕ → Leaf) → Reads
@@ -277,19 +291,19 @@ parseBare node single s (Token.Operator c) p = leafNode (Leaf.Operator c) p
 parseBare node single s (Token.Function t) p = leafNode (Leaf.Function t) p
 parseBare node single s (Token.Space w) p = leafNode (Leaf.Space w) p
 parseBare node single s Token.Sqrt p = parseSqrt node s p
-parseBare node single s Token.Frac p = parseTwo node s (λ a b. build 1 (two (Two.Frac LineThickness.Medium) a b)) p
-parseBare node single s (Token.Binom display) p = parseTwo node s (finishBinom display) p
+parseBare node single s Token.Frac p = parseTwo node s Pair.Frac p
+parseBare node single s (Token.Binom display) p = parseTwo node s (Pair.Binom display) p
 parseBare node single s (Token.Over c acc) p = parseOne node s (One.OverOp c acc) p
 parseBare node single s (Token.Under c acc) p = parseOne node s (One.UnderOp c acc) p
-parseBare node single s Token.Overset p = parseTwo node s (λ over target. build 1 (two Two.Overset target over)) p
-parseBare node single s Token.Underset p = parseTwo node s (λ under target. build 1 (two Two.Underset target under)) p
+parseBare node single s Token.Overset p = parseTwo node s Pair.Overset p
+parseBare node single s Token.Underset p = parseTwo node s Pair.Underset p
 parseBare node single s (Token.Overbrace x) p = parseBrace single s Two.Overset Mark.Circumflex x p
 parseBare node single s (Token.Underbrace x) p = parseBrace single s Two.Underset Mark.Underscore x p
-parseBare node single s (Token.BigOp c) p = parseBigOp single s c p
+parseBare node single s (Token.BigOp c) p = parseLimits single s (Limits.BigOp c) p
 parseBare node single s (Token.Lim t) p = parseLim single s t p
 parseBare node single s Token.Slashed p = parseSlashed node s p
 parseBare node single s (Token.Style v) p = parseStyle node s v p
-parseBare node single s (Token.Integral c) p = parseIntegral single s c p
+parseBare node single s (Token.Integral c) p = parseLimits single s (Limits.Integral c) p
 parseBare node single s Token.LBrace p = parseGroup node s Mark.RBrace p
 parseBare node single s (Token.Paren t) p = leafNode (Leaf.OtherOperator t) p
 parseBare node single s Token.Left p = parseLeft node s p
@@ -310,13 +324,18 @@ parseBare node single s (Token.Command a e) p = leafNode (Leaf.Undefined (Undefi
 
 -- ---- parse_single_node and parse_node over the level below
 
+-- a node with the prime behind it
+unfoldable pub primed : List ℕ → Node → Reads
+primed s n p =
+    elim (peekIs p Mark.Prime) [
+      | true ↦ build 2 (two Two.Superscript n (leaf (Leaf.Operator (code "′")))) (next s p)
+      | false ↦ made n p
+    ]
+
 unfoldable pub singleStep : Reads → Reads → List ℕ → Reads
 singleStep node single s p = do
   (n, q) ← parseBare node single s (p .cur .token) p
-  elim (peekIs q Mark.Prime) [
-    | true ↦ build 2 (two Two.Superscript n (leaf (Leaf.Operator (code "′")))) (next s q)
-    | false ↦ made n q
-  ]
+  primed s n q
 
 -- a script's operand is a whole node
 unfoldable pub script : Reads → List ℕ → Two → Node → Reads

@@ -11,7 +11,8 @@ use Rattle.token.specs.Command.{actsOnADigit}
 use Rattle.token.specs.Roles.{tokenIs, letterOf}
 use Rattle.lexer.specs.declared.Lexeme.{Lexeme}
 use Rattle.lexer.specs.Lex.{lexeme, isDigit, nextToken}
-use Rattle.parse.specs.declared.Parser.{Parser}
+use Rattle.parser.specs.declared.Parser.{Parser}
+use Rattle.parser.specs.declared.TextRead.{TextRead}
 
 unfoldable pub startsWithDigit : List ℕ → Bool
 startsWithDigit [] = false
@@ -44,13 +45,7 @@ unfoldable pub pastLetters : ℕ → List ℕ → Parser → Parser
 pastLetters zero s p = p
 pastLetters (suc k) s p = elim (letterOf (p .cur .token)) [ none ↦ p | some c ↦ pastLetters k s (next s p) ]
 
--- a text of the body: the letters from a up to e, and the state behind them
-pub record TextRead : Type 0 where
-  pub a : ℕ
-  pub e : ℕ
-  pub after : Parser
-
--- the current token is passed unseen, and then the letters; each takes a byte or more, so k never runs out
+-- the letters behind the current token, which is passed unseen; each takes a byte or more, so k never runs out
 unfoldable pub parseText : List ℕ → Parser → TextRead
 parseText s p =
     let begin : Parser = next s p in

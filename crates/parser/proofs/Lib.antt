@@ -1,0 +1,10 @@
+pub mod LeastLaws
+pub mod MoveLaws
+pub mod TreeLaws
+pub mod KeepLaws
+pub mod ArmLaws
+pub mod BodyLaws
+pub mod MarkLaws
+pub mod TextLaws
+pub mod EnvironmentLaws
+pub mod MakeLaws

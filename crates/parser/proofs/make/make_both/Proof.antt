@@ -1,0 +1,36 @@
+-- `parser::make::make_both` meets its contract.
+-- Assumes nothing.
+use Rattle.parser.proofs.MakeLaws.{both-made}
+use Rattle.ast.specs.declared.Leaf.{Leaf}
+use borrow.Author.Needs.{needs}
+use native.Mathlib.Omega.{arith}
+use Rattle.parser.proofs.make.make_both.Statement.{statement}
+use Rattle.parser.proofs.make.make_both.Tie as tie
+use Rattle.parser.proofs.make.make_both.Reads as reads
+use Rattle.parser.proofs.make.make_both.Lts as lts
+use Rattle.parser.proofs.make.done.Reads as done-reads
+use Rattle.parser.proofs.make.put_node.Reads as put-node-reads
+
+put-node-requires : tie.Need-put-node-requires
+put-node-requires c κs = search needs
+
+add-put-node : tie.Need-add-put-node
+add-put-node c = search needs
+
+put-node-requires-2 : tie.Need-put-node-requires-2
+put-node-requires-2 c κs = search needs
+
+done-requires : tie.Need-done-requires
+done-requires c κs = search needs
+
+same-length : tie.Need-same-length
+same-length c = search needs
+
+returns : tie.Need-returns
+returns c =
+    both-made ((c .before .before .before .before .before .before .before .before .before .before .args) .p) ((c .done) .ensures) (Leaf.Operator ((c .before .before .before .before .before .before .before .before .before .before .args) .c)) ((c .before .before .before .before .before .before .before .put-node) .ensures) ((c .before .before .before .before .before .before .before .before .before .before .args) .k) ((c .before .before .before .before .before .before .before .before .before .before .args) .x) ((c .before .before .before .before .before .before .before .before .before .before .args) .y) ((c .before .before .before .put-node2) .ensures) ((c .before .before .before .before .before .before .before .before .before .before .pre) .1) ((c .before .before .before .before .before .before .before .before .before .before .pre) .2)
+
+pub make-both-spec : {M : Type 1} → statement M
+make-both-spec =
+    tie.close
+    (tie.spec put-node-requires add-put-node put-node-requires-2 done-requires same-length returns)

@@ -1,0 +1,27 @@
+-- `parser::make::make_one` meets its contract.
+-- Assumes nothing.
+use Rattle.parser.proofs.MakeLaws.{one-made}
+use borrow.Author.Needs.{needs}
+use native.Mathlib.Omega.{arith}
+use Rattle.parser.proofs.make.make_one.Statement.{statement}
+use Rattle.parser.proofs.make.make_one.Tie as tie
+use Rattle.parser.proofs.make.make_one.Reads as reads
+use Rattle.parser.proofs.make.make_one.Lts as lts
+use Rattle.parser.proofs.make.done.Reads as done-reads
+use Rattle.parser.proofs.make.put_node.Reads as put-node-reads
+
+put-node-requires : tie.Need-put-node-requires
+put-node-requires c κs = search needs
+
+done-requires : tie.Need-done-requires
+done-requires c κs = search needs
+
+same-length : tie.Need-same-length
+same-length c = search needs
+
+returns : tie.Need-returns
+returns c =
+    one-made ((c .before .before .before .before .before .before .args) .p) ((c .done) .ensures) ((c .before .before .before .before .before .before .args) .k) ((c .before .before .before .before .before .before .args) .a) ((c .before .before .before .put-node) .ensures) ((c .before .before .before .before .before .before .pre) .1)
+
+pub make-one-spec : {M : Type 1} → statement M
+make-one-spec = tie.close (tie.spec put-node-requires done-requires same-length returns)

@@ -1,0 +1,79 @@
+-- What the parser's functions do in the store.
+-- Assumes nothing.
+use mathlib.Core.Path.{_≡_}
+use mathlib.Core.Bool.{true}
+use mathlib.Core.List.{List}
+use Prim.Native.Nat.{ℕ, _+_, _*_, _^_, _≤_, _<_}
+use lib.ListN.{length}
+use Rattle.token.specs.declared.Mark.{Mark}
+use Rattle.ast.specs.declared.Record.{Record}
+use Rattle.ast.specs.declared.Shape.{Shape}
+use Rattle.ast.specs.Shape.{fields}
+use Rattle.ast.specs.Store.{recordAt}
+use Rattle.ast.specs.Tree.{Node, Nodes}
+use Rattle.ast.specs.Held.{count, holds, holdsAll}
+use Rattle.parser.specs.declared.Parser.{Parser}
+use Rattle.parser.specs.declared.ParsedNode.{ParsedNode}
+use Rattle.parser.specs.State.{peekIs}
+use Rattle.parser.specs.Parse.{Parsed, made, refused}
+use Rattle.parser.specs.Sound.{Sound, idle}
+
+-- the node at i and the state q are what the definition wants; the tree stands in st′ with its records from lo on, and no record made
+-- before the state p is another than in st
+pub record Built (st st′ : List ℕ) (lo : ℕ) (p : Parser) (want : Parsed Node) (i : ℕ) (q : Parser) : Type 0 where
+  pub tree : Node
+  pub is : want ≡ made tree q
+  pub held : holds st′ lo i tree
+  pub below : i < q .made
+  pub kept : (j : ℕ) → j < p .made → recordAt st′ j ≡ recordAt st j
+
+-- the answer of a function of the parser
+abbrev pub Builds : List ℕ → List ℕ → ℕ → Parser → Parsed Node → ParsedNode → Type 0
+Builds st st′ lo p want (ParsedNode.Node i q) = Built st st′ lo p want i q
+Builds st st′ lo p want (ParsedNode.Refused r) = want ≡ refused r
+
+-- .. of one that has read no node, one node, which is at a, and two nodes, which are at a and b
+abbrev pub BuildsNone : List ℕ → List ℕ → Parser → Parsed Node → ParsedNode → Type 0
+BuildsNone st st′ p want r = (lo : ℕ) → lo ≤ p .made → Builds st st′ lo p want r
+
+abbrev pub BuildsOne : List ℕ → List ℕ → Parser → ℕ → (Node → Parsed Node) → ParsedNode → Type 0
+BuildsOne st st′ p a want r = (lo : ℕ) (n : Node) → lo ≤ p .made → holds st lo a n → Builds st st′ lo p (want n) r
+
+abbrev pub BuildsTwo : List ℕ → List ℕ → Parser → ℕ → ℕ → (Node → Node → Parsed Node) → ParsedNode → Type 0
+BuildsTwo st st′ p a b want r = (lo : ℕ) (m n : Node) → lo ≤ p .made → holds st lo a m → holds st lo b n → Builds st st′ lo p (want m n) r
+
+-- .. of one that has read the nodes from `first` on
+abbrev pub BuildsRow : List ℕ → List ℕ → Parser → ℕ → ℕ → (Nodes → Parsed Node) → ParsedNode → Type 0
+BuildsRow st st′ p first n want r =
+    (lo before last : ℕ) (ns : Nodes) → holdsAll st lo first before last (p .made) ns → n ≡ count ns → Builds st st′ lo p (want ns) r
+
+-- the record of a node of the kind k with parts at the indices a, b and c
+unfoldable pub nodeRecord : Shape → ℕ → ℕ → ℕ → Record
+nodeRecord k a b c = record {
+  tag = fields k .tag;
+  attr = fields k .attr;
+  a = a;
+  b = b;
+  c = c;
+  next = 0;
+  x = fields k .x;
+  y = fields k .y;
+}
+
+-- k records more can be made
+pub record Free (st : List ℕ) (p : Parser) (k : ℕ) : Type 0 where
+  pub fits : (p .made + k) * 24 ≤ length st
+  pub small : p .made + k ≤ 65536
+
+-- `cap` records are lent, which suffice from the state p on
+pub record Ready (s st : List ℕ) (p : Parser) : Type 0 where
+  pub sound : Sound s p
+  pub cap : ℕ
+  pub room : p .made + 2 * length s + idle (p .cur) ≤ cap + 2 * p .cur .start
+  pub lent : cap * 24 ≤ length st
+  pub small : cap ≤ 65536
+  pub long : length s < 2 ^ 32
+
+-- where a prime is next, two records more can be made
+abbrev pub Primed : List ℕ → Parser → Type 0
+Primed st p = peekIs p Mark.Prime ≡ true → Free st p 2

@@ -1,0 +1,89 @@
+-- What the parser's functions ask of a token, as enums of the code answer it.
+-- Assumes nothing.
+use mathlib.Core.Bool.{Bool, true, false}
+use mathlib.Core.Option.{Option, none, some}
+use Prim.Native.Nat.{ℕ}
+use Rattle.token.specs.declared.Token.{Token}
+use Rattle.token.specs.declared.Token.the-variants.{EOF, Begin, End, Ampersand, NewLine, Left, Right, Middle, Paren, LBrace, RBrace, Frac, Underscore, Circumflex, Binom, Overset, Underset, Overbrace, Underbrace, Sqrt, Integral, Lim, Space, Style, Big, Over, Under, Operator, BigOp, Letter, Number, Function, OperatorName, Slashed, Text, Command}
+use Rattle.token.specs.declared.Mark.{Mark}
+use Rattle.token.specs.declared.Undefined.{Undefined}
+use Rattle.token.specs.Roles.{letterOf, tokenIs}
+use Rattle.ast.specs.declared.Leaf.{Leaf}
+use Rattle.ast.specs.declared.Two.{Two}
+use Rattle.ast.specs.Tree.{Node}
+use Rattle.parser.specs.declared.Fence.{Fence}
+use Rattle.parser.specs.declared.Script.{Script}
+use Rattle.parser.specs.declared.Limits.{Limits}
+use Rattle.parser.specs.Parse.{Reads, withBelow, withAbove, withBoth}
+
+unfoldable pub isLetter : Token → Bool
+isLetter t = elim (letterOf t) [ none ↦ false | some c ↦ true ]
+
+unfoldable pub fence : Option ℕ → Fence
+fence none = Fence.Missing
+fence (some t) = Fence.Fixed t
+
+-- whether an operand follows a token, and whether it stands above
+unfoldable pub scriptOf : Token → Script
+scriptOf t =
+    elim (tokenIs t Mark.Underscore) [
+      | true ↦ Script.Operand false
+      | false ↦ elim (tokenIs t Mark.Circumflex) [ true ↦ Script.Operand true | false ↦ Script.Neither ]
+    ]
+
+abbrev pub scriptKind : Bool → Two
+scriptKind true = Two.Superscript
+scriptKind false = Two.Subscript
+
+-- the mark of the other limit
+abbrev pub otherLimit : Bool → Mark
+otherLimit true = Mark.Underscore
+otherLimit false = Mark.Circumflex
+
+-- an operator with a limit above or below, and with a second one at the other place
+abbrev pub withLimit : Bool → Limits → Node → Reads
+withLimit true kind over = withAbove kind over
+withLimit false kind under = withBelow kind under
+
+abbrev pub withLimits : Bool → Limits → Node → Node → Reads
+withLimits true kind over under = withBoth kind under over
+withLimits false kind under over = withBoth kind under over
+
+-- the leaf that a token is by itself; a token with operands is none
+unfoldable pub leafOf : Token → Leaf
+leafOf EOF = Leaf.Undefined Undefined.EOF
+leafOf Begin = Leaf.Undefined Undefined.EOF
+leafOf End = Leaf.Undefined Undefined.End
+leafOf Ampersand = Leaf.Ampersand
+leafOf NewLine = Leaf.NewLine
+leafOf Left = Leaf.Undefined Undefined.EOF
+leafOf Right = Leaf.Undefined Undefined.Right
+leafOf Middle = Leaf.Undefined Undefined.EOF
+leafOf (Paren t) = Leaf.OtherOperator t
+leafOf LBrace = Leaf.Undefined Undefined.EOF
+leafOf RBrace = Leaf.Undefined Undefined.RBrace
+leafOf Frac = Leaf.Undefined Undefined.EOF
+leafOf Underscore = Leaf.Undefined Undefined.Underscore
+leafOf Circumflex = Leaf.Undefined Undefined.Circumflex
+leafOf (Binom b) = Leaf.Undefined Undefined.EOF
+leafOf Overset = Leaf.Undefined Undefined.EOF
+leafOf Underset = Leaf.Undefined Undefined.EOF
+leafOf (Overbrace c) = Leaf.Undefined Undefined.EOF
+leafOf (Underbrace c) = Leaf.Undefined Undefined.EOF
+leafOf Sqrt = Leaf.Undefined Undefined.EOF
+leafOf (Integral c) = Leaf.Undefined Undefined.EOF
+leafOf (Lim t) = Leaf.Undefined Undefined.EOF
+leafOf (Space w) = Leaf.Space w
+leafOf (Style v) = Leaf.Undefined Undefined.EOF
+leafOf (Big t) = Leaf.Undefined Undefined.EOF
+leafOf (Over c a) = Leaf.Undefined Undefined.EOF
+leafOf (Under c a) = Leaf.Undefined Undefined.EOF
+leafOf (Operator c) = Leaf.Operator c
+leafOf (BigOp c) = Leaf.Undefined Undefined.EOF
+leafOf (Letter c v) = Leaf.Letter c v
+leafOf (Number a e) = Leaf.Number a e
+leafOf (Function t) = Leaf.Function t
+leafOf OperatorName = Leaf.Undefined Undefined.EOF
+leafOf Slashed = Leaf.Undefined Undefined.EOF
+leafOf Text = Leaf.Undefined Undefined.EOF
+leafOf (Command a e) = Leaf.Undefined (Undefined.Command a e)

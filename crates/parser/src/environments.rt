@@ -1,0 +1,56 @@
+// The environments that `\begin` knows.
+use crate::Environment;
+use attribute::ColumnAlign;
+use lexer::Cursor;
+use token::Token;
+ghost use mathlib.Core.Path.{_≡_};
+ghost use Rattle.lexer.specs.Letters.{letters};
+ghost use Rattle.parser.specs.Environment.{environment, same};
+
+// Whether the letters at the head of a text spell a name.
+fn spells(t: &[u8], name: &[u8]) -> bool
+    ensures { λ r. ⌜ r ≡ same (letters (now (t .entry))) (now (name .entry)) ⌝ }
+{
+    let mut i = 0;
+    let mut k = 0;
+    loop {
+        let rest = &t[i..];
+        let l = Cursor { at: 0 }.next_token(rest);
+        let token = l.token;
+        match token {
+            Token::Letter(c, _) => {
+                if k == name.len() {
+                    return false;
+                }
+                if c != name[k] as u32 {
+                    return false;
+                }
+                k += 1;
+                i += l.end;
+            }
+            _ => return k == name.len(),
+        }
+    }
+}
+
+// The environment whose name the letters of a text spell.
+pub fn environment_of(t: &[u8]) -> Environment
+    ensures { λ r. ⌜ r ≡ environment (now (t .entry)) ⌝ }
+{
+    if spells(t, b"align") {
+        return Environment::Bare(ColumnAlign::Left);
+    }
+    if spells(t, b"matrix") {
+        return Environment::Bare(ColumnAlign::Center);
+    }
+    if spells(t, b"pmatrix") {
+        return Environment::Between(1, 2); // ( )
+    }
+    if spells(t, b"bmatrix") {
+        return Environment::Between(3, 4); // [ ]
+    }
+    if spells(t, b"vmatrix") {
+        return Environment::Between(5, 5); // |
+    }
+    Environment::Unknown
+}

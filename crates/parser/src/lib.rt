@@ -1,0 +1,179 @@
+// The parser's state, and what it makes of the nodes that it has read: the Rust's parse.rs but for the calls among its functions.
+pub mod environments;
+pub mod make;
+pub mod marks;
+
+use crate::marks::is_letter;
+use crate::marks::token_is;
+use attribute::ColumnAlign;
+use error::Refusal;
+use lexer::Cursor;
+use lexer::Lexeme;
+use lexer::is_digit;
+use token::Binomial;
+use token::Mark;
+use token::Token;
+ghost use mathlib.Core.Path.{_≡_};
+ghost use mathlib.Core.Bool.{_&&_};
+ghost use Prim.Native.Nat.{_≤_};
+ghost use lib.ListN.{length, drop};
+ghost use Rattle.token.specs.Command.{actsOnADigit};
+ghost use Rattle.parser.specs.State.{startsWithDigit, following, next, new, curIs, peekIs, parseText};
+ghost use Rattle.parser.specs.Sound.{Sound};
+
+// The Rust's `Parser`, by value: the lexer stands at the end of `peek`, and `made` counts the records.
+pub struct Parser {
+    pub cur: Lexeme,
+    pub peek: Lexeme,
+    pub made: usize,
+}
+
+// A text of the body: the letters from a up to e, and the state behind them.
+pub struct TextRead {
+    pub a: usize,
+    pub e: usize,
+    pub after: Parser,
+}
+
+// The Rust's `Result<Node, LatexError>`: the index of a node and the state behind it, or why there is none.
+pub enum ParsedNode {
+    Node(usize, Parser),
+    Refused(Refusal),
+}
+
+// The text of a parenthesis or of a fence, if the token is one.
+pub enum Fence {
+    Missing,
+    Fixed(u32),
+}
+
+// Whether an operand follows a token, and whether it stands above.
+pub enum Script {
+    Neither,
+    Operand(bool),
+}
+
+// The commands with two operands.
+pub enum Pair {
+    Frac,
+    Binom(Binomial),
+    Overset,
+    Underset,
+}
+
+// The operators with limits, each with its character.
+pub enum Limits {
+    BigOp(u32),
+    Integral(u32),
+}
+
+// A matrix with its alignment, alone or between two fixed texts.
+pub enum Environment {
+    Unknown,
+    Bare(ColumnAlign),
+    Between(u32, u32),
+}
+
+// Whether a token acts on a digit and one stands at a place.
+fn takes_digit(t: Token, s: &[u8], at: usize) -> bool
+    requires { ⌜ at ≤ length (now s) ⌝ }
+    ensures { λ r. ⌜ r ≡ (actsOnADigit t && startsWithDigit (drop at (now (s .entry)))) ⌝ }
+{
+    if t.acts_on_a_digit() {
+        if at < s.len() {
+            return is_digit(s[at]);
+        }
+        return false;
+    }
+    false
+}
+
+// The token behind t, which ends at a place: a digit directly behind a token that acts on it is a number.
+fn following(t: Token, s: &[u8], at: usize) -> Lexeme
+    requires { ⌜ at ≤ length (now s) ⌝ }
+    ensures { λ r. ⌜ r ≡ following t at (drop at (now (s .entry))) ⌝ }
+{
+    if takes_digit(t, s, at) {
+        return Lexeme {
+            token: Token::Number(at, at + 1),
+            start: at,
+            end: at + 1,
+        };
+    }
+    Cursor { at: at }.next_token(s)
+}
+
+impl Parser {
+    // The state before the first token of a body.
+    pub fn new(s: &[u8]) -> Parser
+        ensures { λ r. ⌜ r ≡ new (now (s .entry)) ⌝ }
+    {
+        let nothing = Lexeme {
+            token: Token::EOF,
+            start: 0,
+            end: 0,
+        };
+        let p = Parser {
+            cur: nothing,
+            peek: nothing,
+            made: 0,
+        };
+        let q = p.next_token(s);
+        q.next_token(s)
+    }
+
+    // Moves on by one token: the lexer reads from the end of `peek`.
+    pub fn next_token(self, s: &[u8]) -> Parser
+        requires { ⌜ self .peek .end ≤ length (now s) ⌝ }
+        ensures { λ r. ⌜ r ≡ next (now (s .entry)) self ⌝ }
+    {
+        let cur = self.peek;
+        let token = cur.token;
+        let peek = following(token, s, cur.end);
+        Parser {
+            cur: cur,
+            peek: peek,
+            made: self.made,
+        }
+    }
+
+    // Whether the current token is the one that a mark names.
+    pub fn cur_token_is(self, m: Mark) -> bool
+        ensures { λ r. ⌜ r ≡ curIs self m ⌝ }
+    {
+        let cur = self.cur;
+        let token = cur.token;
+        token_is(token, m)
+    }
+
+    // Whether the token behind the current one is the one that a mark names.
+    pub fn peek_token_is(self, m: Mark) -> bool
+        ensures { λ r. ⌜ r ≡ peekIs self m ⌝ }
+    {
+        let peek = self.peek;
+        let token = peek.token;
+        token_is(token, m)
+    }
+
+    // Passes the current token unseen, and reads the letters behind it.
+    pub fn parse_text(self, s: &[u8]) -> TextRead
+        requires { ⌜ Sound (now s) self ⌝ }
+        ensures { λ r. ⌜ r ≡ parseText (now (s .entry)) self ⌝ }
+    {
+        let mut p = self.next_token(s);
+        let begin = p.cur;
+        loop {
+            let cur = p.cur;
+            let token = cur.token;
+            if is_letter(token) {
+                p = p.next_token(s);
+            } else {
+                return TextRead {
+                    a: begin.start,
+                    e: cur.start,
+                    after: p,
+                };
+            }
+        }
+    }
+}
