@@ -1,0 +1,5 @@
+pub mod RoomLaws
+pub mod SeqLaws
+pub mod WayLaws
+pub mod LeafLaws
+pub mod GroupLaws

@@ -1,0 +1,138 @@
+-- Answers of the parser one after the other: what was read before stays where it stands.
+-- Assumes nothing.
+use mathlib.Core.Path.{_≡_, refl, sym, _∙_, ap, subst}
+use mathlib.Core.List.{List}
+use Prim.Native.Nat.{ℕ, _≤_, _<_}
+use native.Mathlib.Omega.{arith}
+use Rattle.attribute.specs.declared.Variant.{Variant}
+use Rattle.token.specs.declared.Token.{Token}
+use Rattle.ast.specs.Store.{recordAt}
+use Rattle.ast.specs.Tree.{Node, setVariant}
+use Rattle.ast.specs.Held.{holds}
+use Rattle.ast.specs.Turned.{Sets}
+use Rattle.ast.proofs.HeldLaws.{same-but, low, frame}
+use Rattle.ast.proofs.RowLaws.{lower}
+use Rattle.parser.specs.declared.Parser.{Parser}
+use Rattle.parser.specs.declared.ParsedNode.{ParsedNode}
+use Rattle.parser.specs.Parse.{Parsed, made, refused, Reads, parseBare}
+use Rattle.parser.specs.Built.{Built, Builds, BuildsNone, BuildsOne, BuildsTwo}
+
+-- the records that were made before the state p stay
+abbrev pub Stay : List ℕ → List ℕ → Parser → Type 0
+Stay st st′ p = (j : ℕ) → j < p .made → recordAt st′ j ≡ recordAt st j
+
+-- an answer from a later state of the same call
+pub rebased : (st st₁ st₂ : List ℕ) (lo : ℕ) (p q : Parser) (want w : Parsed Node) (r : ParsedNode) → Builds st₁ st₂ lo q w r → Stay st st₁ p → p .made ≤ q .made → want ≡ w
+    → Builds st st₂ lo p want r
+rebased st st₁ st₂ lo p q want w (ParsedNode.Node i x) b kept le e = record {
+  tree = b .tree;
+  is = e ∙ b .is;
+  held = b .held;
+  below = b .below;
+  kept = λ j h. b .kept j (omega arith) ∙ kept j h;
+}
+rebased st st₁ st₂ lo p q want w (ParsedNode.Refused n) b kept le e = e ∙ b
+
+-- no node is read before
+pub after-none : (st st′ : List ℕ) (p q : Parser) (want w : Parsed Node) (r : ParsedNode) → q .made ≡ p .made → BuildsNone st st′ q w r → want ≡ w
+    → Builds st st′ (p .made) p want r
+after-none st st′ p q want w r e b is = rebased st st st′ (p .made) p q want w r (b (p .made) (omega arith)) (λ j h. refl) (omega arith) is
+
+module _ (st st₁ : List ℕ) (p b q : Parser) (want₁ : Parsed Node) (i : ℕ) (same : b .made ≡ p .made) (g : Built st st₁ (b .made) b want₁ i q) where
+  first-held : holds st₁ (p .made) i (g .tree)
+  first-held = rw same at (g .held)
+
+  first-low : p .made ≤ i
+  first-low = low st₁ (p .made) i (g .tree) first-held
+
+  first-kept : Stay st st₁ p
+  first-kept j h = g .kept j (omega arith)
+
+  -- the node itself is the answer
+  pub only : (want : Parsed Node) → want ≡ made (g .tree) q → Built st st₁ (p .made) p want i q
+  only want e = record { tree = g .tree; is = e; held = first-held; below = g .below; kept = first-kept }
+
+  -- one node is read before
+  pub after-one : (st₂ : List ℕ) (q′ : Parser) (f : Node → Parsed Node) (want : Parsed Node) (r : ParsedNode) → q′ .made ≡ q .made → BuildsOne st₁ st₂ q′ i f r → want ≡ f (g .tree)
+      → Builds st st₂ (p .made) p want r
+  after-one st₂ q′ f want r e bs is =
+      let a = first-low in
+      let d = g .below in
+      rebased st st₁ st₂ (p .made) p q′ want (f (g .tree)) r (bs (p .made) (g .tree) (omega arith) first-held) first-kept (omega arith) is
+
+  -- two nodes are read before
+  module _ (st₂ : List ℕ) (b′ q₂ : Parser) (want₂ : Parsed Node) (j : ℕ) (same₂ : b′ .made ≡ q .made) (h : Built st₁ st₂ (b′ .made) b′ want₂ j q₂) where
+    both-kept : Stay st₁ st₂ q
+    both-kept k lt = h .kept k (omega arith)
+
+    second-low : p .made ≤ b′ .made
+    second-low =
+        let a = first-low in
+        let d = g .below in
+        omega arith
+
+    second-held : holds st₂ (p .made) j (h .tree)
+    second-held = lower st₂ (b′ .made) (p .made) second-low j (h .tree) (h .held)
+
+    second-above : b′ .made ≤ j
+    second-above = low st₂ (b′ .made) j (h .tree) (h .held)
+
+    -- the first stays while the second is built behind it
+    stayed : holds st₂ (p .made) i (g .tree)
+    stayed =
+        let d = g .below in
+        frame st₁ st₂ (p .made) i (g .tree) (λ k x y. both-kept k (omega arith)) (same-but (both-kept i d)) first-held
+
+    all-kept : Stay st st₂ p
+    all-kept k lt =
+        let a = first-low in
+        let d = g .below in
+        both-kept k (omega arith) ∙ first-kept k lt
+
+    pub first-below : i < q₂ .made
+    first-below =
+        let d = g .below in
+        let a = second-above in
+        let c = h .below in
+        omega arith
+
+    pub after-two : (st₃ : List ℕ) (q′ : Parser) (f : Node → Node → Parsed Node) (want : Parsed Node) (r : ParsedNode) → q′ .made ≡ q₂ .made → BuildsTwo st₂ st₃ q′ i j f r
+        → want ≡ f (g .tree) (h .tree) → Builds st st₃ (p .made) p want r
+    after-two st₃ q′ f want r e bs is =
+        let a = second-low in
+        let c = second-above in
+        let d = h .below in
+        rebased st st₂ st₃ (p .made) p q′ want (f (g .tree) (h .tree)) r (bs (p .made) (g .tree) (h .tree) (omega arith) stayed second-held) all-kept (omega arith) is
+
+    -- .. of which the second stands first
+    pub after-two-swapped : (st₃ : List ℕ) (q′ : Parser) (f : Node → Node → Parsed Node) (want : Parsed Node) (r : ParsedNode) → q′ .made ≡ q₂ .made → BuildsTwo st₂ st₃ q′ j i f r
+        → want ≡ f (h .tree) (g .tree) → Builds st st₃ (p .made) p want r
+    after-two-swapped st₃ q′ f want r e bs is =
+        after-two st₃ q′ (λ m n. f n m) want r e (λ lo m n le x y. bs lo n m le y x) is
+
+-- the letters of a node that is read get a variant
+pub after-set : (st st₁ st₂ : List ℕ) (p b q : Parser) (want₁ want : Parsed Node) (i : ℕ) (v : Variant) → b .made ≡ p .made → (g : Built st st₁ (b .made) b want₁ i q) → Sets st₁ st₂ i v
+    → want ≡ made (setVariant v (g .tree)) q → Built st st₂ (p .made) p want i q
+after-set st st₁ st₂ p b q want₁ want i v same g sets is =
+    let t = sets .all (b .made) (g .tree) (g .held) in
+    record {
+      tree = setVariant v (g .tree);
+      is = is;
+      held = rw same at (t .held);
+      below = g .below;
+      kept = λ j h. t .below j (omega arith) ∙ g .kept j (omega arith);
+    }
+
+-- the arm of the current token
+pub bare-as : (node single : Reads) (s st st′ : List ℕ) (lo : ℕ) (p : Parser) (t : Token) (r : ParsedNode) → p .cur .token ≡ t → Builds st st′ lo p (parseBare node single s t p) r
+    → Builds st st′ lo p (parseBare node single s (p .cur .token) p) r
+bare-as node single s st st′ lo p t r e h = subst (λ x. Builds st st′ lo p (parseBare node single s x p) r) (sym e) h
+
+-- a node with its prime, of which q is the state behind the prime
+pub after-prime : (st st′ : List ℕ) (p q : Parser) (a : ℕ) (f w : Node → Parsed Node) (r : ParsedNode) → q .made ≡ p .made → BuildsOne st st′ q a w r → ((n : Node) → f n ≡ w n) → BuildsOne st st′ p a f r
+after-prime st st′ p q a f w r same b is lo n le h =
+    rebased st st st′ lo p q (f n) (w n) r (b lo n (omega arith) h) (λ j l. refl) (omega arith) (is n)
+
+-- a node that stays as it is
+pub left-alone : (st : List ℕ) (p : Parser) (a : ℕ) (f : Node → Parsed Node) → a < p .made → ((n : Node) → f n ≡ made n p) → BuildsOne st st p a f (ParsedNode.Node a p)
+left-alone st p a f below is lo n le h = record { tree = n; is = is n; held = h; below = below; kept = λ j l. refl }

@@ -1,0 +1,438 @@
+// The parser: the functions of the Rust's parse.rs that call one another.
+use ast::Leaf;
+use ast::One;
+use ast::Two;
+use ast::rows::append;
+use ast::variant::set_variant;
+use attribute::Variant;
+use error::Refusal;
+use parser::Fence;
+use parser::Limits;
+use parser::Pair;
+use parser::ParsedNode;
+use parser::Parser;
+use parser::Script;
+use parser::environments::environment_of;
+use parser::make::make_alone;
+use parser::make::make_big;
+use parser::make::make_environment;
+use parser::make::make_explained;
+use parser::make::make_fenced;
+use parser::make::make_leaf;
+use parser::make::make_leaf_first;
+use parser::make::make_leaf_second;
+use parser::make::make_limit;
+use parser::make::make_limits;
+use parser::make::make_one;
+use parser::make::make_pair;
+use parser::make::make_row;
+use parser::make::make_stretched;
+use parser::make::make_two;
+use parser::marks::fence_of;
+use parser::marks::leaf_of;
+use parser::marks::other_limit;
+use parser::marks::script_kind;
+use parser::marks::script_of;
+use token::Mark;
+use token::Token;
+ghost use mathlib.Core.Path.{_≡_};
+ghost use Prim.Native.Nat.{_+_, _*_, _≤_, _<_};
+ghost use lib.ListN.{length};
+ghost use Rattle.ast.specs.declared.Leaf.the-variants.{FunctionName, Text};
+ghost use Rattle.token.specs.Roles.{markNumber};
+ghost use Rattle.parser.specs.Parse.{build, parseNode, parseSingleNode, parseGroup, parseSqrt, parseTwo, parseOne, parseBrace, parseLimits, parseLim, parseSlashed, parseStyle, parseLeft, parseMiddle, parseBig, parseBegin, parseTextLeaf, parseBare, primed};
+ghost use Rattle.parser.specs.Built.{Ready, Free, Primed, Builds, BuildsOne};
+
+// A node with the scripts behind it.
+pub fn parse_node(s: &[u8], store: &mut [u8], p: Parser, depth_left: usize) -> ParsedNode
+    requires { ⌜ Ready (now s) (now store) p ⌝ }
+    ensures { λ r. ⌜ Builds (now (store .entry)) (now (store .exit)) (p .made) p (parseNode «depth_left» (now (s .entry)) p) r ⌝ }
+{
+    if depth_left == 0 {
+        return ParsedNode::Refused(Refusal::TooDeep);
+    }
+    match parse_single_node(s, store, p, depth_left - 1) {
+        ParsedNode::Refused(r) => ParsedNode::Refused(r),
+        ParsedNode::Node(left, q) => {
+            let peek = q.peek;
+            let token = peek.token;
+            match script_of(token) {
+                Script::Neither => ParsedNode::Node(left, q),
+                Script::Operand(over) => {
+                    let mark = q.next_token(s);
+                    let begin = mark.next_token(s);
+                    match parse_node(s, store, begin, depth_left - 1) {
+                        ParsedNode::Refused(r) => ParsedNode::Refused(r),
+                        ParsedNode::Node(right, r) => make_two(
+                            store,
+                            r,
+                            script_kind(over),
+                            left,
+                            right,
+                        ),
+                    }
+                }
+            }
+        }
+    }
+}
+
+// A node without the scripts behind it, but with a prime.
+fn parse_single_node(s: &[u8], store: &mut [u8], p: Parser, depth_left: usize) -> ParsedNode
+    requires { ⌜ Ready (now s) (now store) p ⌝ }
+    ensures { λ r. ⌜ Builds (now (store .entry)) (now (store .exit)) (p .made) p (parseSingleNode «depth_left» (now (s .entry)) p) r ⌝ }
+{
+    if depth_left == 0 {
+        return ParsedNode::Refused(Refusal::TooDeep);
+    }
+    match parse_bare(s, store, p, depth_left - 1) {
+        ParsedNode::Refused(r) => ParsedNode::Refused(r),
+        ParsedNode::Node(n, q) => finish_prime(s, store, q, n),
+    }
+}
+
+// A node with the prime behind it, if there is one.
+fn finish_prime(s: &[u8], store: &mut [u8], p: Parser, a: usize) -> ParsedNode
+    requires { ⌜ (p .peek .end ≤ length (now s)) × Primed (now store) p × (a < p .made) ⌝ }
+    ensures { λ r. ⌜ BuildsOne (now (store .entry)) (now (store .exit)) p a (λ n. primed (now (s .entry)) n p) r ⌝ }
+{
+    if p.peek_token_is(Mark::Prime) {
+        let after = p.next_token(s);
+        return make_leaf_second(store, after, Two::Superscript, a, Leaf::Operator(0x2032));
+    }
+    ParsedNode::Node(a, p)
+}
+
+// A sized parenthesis.
+fn parse_big(s: &[u8], store: &mut [u8], p: Parser, size: u32) -> ParsedNode
+    requires { ⌜ Ready (now s) (now store) p × (p .cur .start + 3 ≤ p .cur .end) ⌝ }
+    ensures { λ r. ⌜ Builds (now (store .entry)) (now (store .exit)) (p .made) p (parseBig (now (s .entry)) size p) r ⌝ }
+{
+    let after = p.next_token(s);
+    make_big(store, after, size)
+}
+
+fn parse_operator_name(s: &[u8], store: &mut [u8], p: Parser) -> ParsedNode
+    requires { ⌜ Ready (now s) (now store) p × (p .cur .start + 3 ≤ p .cur .end) ⌝ }
+    ensures { λ r. ⌜ Builds (now (store .entry)) (now (store .exit)) (p .made) p (parseTextLeaf (now (s .entry)) FunctionName p) r ⌝ }
+{
+    let begin = p.next_token(s);
+    let t = begin.parse_text(s);
+    make_leaf(store, t.after, Leaf::FunctionName(t.a, t.e))
+}
+
+fn parse_text(s: &[u8], store: &mut [u8], p: Parser) -> ParsedNode
+    requires { ⌜ Ready (now s) (now store) p × (p .cur .start + 3 ≤ p .cur .end) ⌝ }
+    ensures { λ r. ⌜ Builds (now (store .entry)) (now (store .exit)) (p .made) p (parseTextLeaf (now (s .entry)) Text p) r ⌝ }
+{
+    let begin = p.next_token(s);
+    let t = begin.parse_text(s);
+    make_leaf(store, t.after, Leaf::Text(t.a, t.e))
+}
+
+// A node by its first token.
+fn parse_bare(s: &[u8], store: &mut [u8], p: Parser, depth_left: usize) -> ParsedNode
+    requires { ⌜ Ready (now s) (now store) p ⌝ }
+    ensures { λ r. ⌜ Builds (now (store .entry)) (now (store .exit)) (p .made) p (parseBare (λ q. parseNode «depth_left» (now (s .entry)) q) (λ q. parseSingleNode «depth_left» (now (s .entry)) q) (now (s .entry)) (p .cur .token) p) r ⌝ }
+{
+    let cur = p.cur;
+    let token = cur.token;
+    match token {
+        Token::Sqrt => parse_sqrt(s, store, p, depth_left),
+        Token::Frac => parse_two(s, store, p, depth_left, Pair::Frac),
+        Token::Binom(d) => parse_two(s, store, p, depth_left, Pair::Binom(d)),
+        Token::Over(c, acc) => parse_one(s, store, p, depth_left, One::OverOp(c, acc)),
+        Token::Under(c, acc) => parse_one(s, store, p, depth_left, One::UnderOp(c, acc)),
+        Token::Overset => parse_two(s, store, p, depth_left, Pair::Overset),
+        Token::Underset => parse_two(s, store, p, depth_left, Pair::Underset),
+        Token::Overbrace(x) => parse_brace(
+            s,
+            store,
+            p,
+            depth_left,
+            Two::Overset,
+            Mark::Circumflex,
+            x,
+        ),
+        Token::Underbrace(x) => parse_brace(
+            s,
+            store,
+            p,
+            depth_left,
+            Two::Underset,
+            Mark::Underscore,
+            x,
+        ),
+        Token::BigOp(c) => parse_limits(s, store, p, depth_left, Limits::BigOp(c)),
+        Token::Lim(t) => parse_lim(s, store, p, depth_left, t),
+        Token::Slashed => parse_slashed(s, store, p, depth_left),
+        Token::Style(v) => parse_style(s, store, p, depth_left, v),
+        Token::Integral(c) => parse_limits(s, store, p, depth_left, Limits::Integral(c)),
+        Token::LBrace => parse_group(s, store, p, depth_left, Mark::RBrace),
+        Token::Left => parse_left(s, store, p, depth_left),
+        Token::Middle => parse_middle(s, store, p, depth_left),
+        Token::Big(size) => parse_big(s, store, p, size),
+        Token::Begin => parse_begin(s, store, p, depth_left),
+        Token::OperatorName => parse_operator_name(s, store, p),
+        Token::Text => parse_text(s, store, p),
+        _ => make_leaf(store, p, leaf_of(token)),
+    }
+}
+
+fn parse_sqrt(s: &[u8], store: &mut [u8], p: Parser, depth_left: usize) -> ParsedNode
+    requires { ⌜ Ready (now s) (now store) p × (p .cur .start + 3 ≤ p .cur .end) ⌝ }
+    ensures { λ r. ⌜ Builds (now (store .entry)) (now (store .exit)) (p .made) p (parseSqrt (λ q. parseNode «depth_left» (now (s .entry)) q) (now (s .entry)) p) r ⌝ }
+{
+    let begin = p.next_token(s);
+    if begin.cur_token_is(Mark::LBracket) {
+        match parse_group(s, store, begin, depth_left, Mark::RBracket) {
+            ParsedNode::Refused(r) => {
+                return ParsedNode::Refused(r);
+            }
+            ParsedNode::Node(degree, q) => {
+                let after = q.next_token(s);
+                match parse_node(s, store, after, depth_left) {
+                    ParsedNode::Refused(r) => {
+                        return ParsedNode::Refused(r);
+                    }
+                    ParsedNode::Node(content, r) => {
+                        return make_two(store, r, Two::Root, content, degree);
+                    }
+                }
+            }
+        }
+    }
+    match parse_node(s, store, begin, depth_left) {
+        ParsedNode::Refused(r) => ParsedNode::Refused(r),
+        ParsedNode::Node(content, q) => make_one(store, q, One::Sqrt, content),
+    }
+}
+
+// A command with one operand.
+fn parse_one(s: &[u8], store: &mut [u8], p: Parser, depth_left: usize, k: One) -> ParsedNode
+    requires { ⌜ Ready (now s) (now store) p × (p .cur .start + 3 ≤ p .cur .end) ⌝ }
+    ensures { λ r. ⌜ Builds (now (store .entry)) (now (store .exit)) (p .made) p (parseOne (λ q. parseNode «depth_left» (now (s .entry)) q) (now (s .entry)) k p) r ⌝ }
+{
+    let begin = p.next_token(s);
+    match parse_node(s, store, begin, depth_left) {
+        ParsedNode::Refused(r) => ParsedNode::Refused(r),
+        ParsedNode::Node(a, q) => make_one(store, q, k, a),
+    }
+}
+
+// A command with two operands.
+fn parse_two(s: &[u8], store: &mut [u8], p: Parser, depth_left: usize, k: Pair) -> ParsedNode
+    requires { ⌜ Ready (now s) (now store) p × (p .cur .start + 3 ≤ p .cur .end) ⌝ }
+    ensures { λ r. ⌜ Builds (now (store .entry)) (now (store .exit)) (p .made) p (parseTwo (λ q. parseNode «depth_left» (now (s .entry)) q) (now (s .entry)) k p) r ⌝ }
+{
+    let begin = p.next_token(s);
+    match parse_node(s, store, begin, depth_left) {
+        ParsedNode::Refused(r) => ParsedNode::Refused(r),
+        ParsedNode::Node(a, q) => {
+            let after = q.next_token(s);
+            match parse_node(s, store, after, depth_left) {
+                ParsedNode::Refused(r) => ParsedNode::Refused(r),
+                ParsedNode::Node(b, r) => make_pair(store, r, k, a, b),
+            }
+        }
+    }
+}
+
+// A brace over or under a target, with an explanation behind the mark.
+fn parse_brace(
+    s: &[u8],
+    store: &mut [u8],
+    p: Parser,
+    depth_left: usize,
+    k: Two,
+    mark: Mark,
+    x: u32,
+) -> ParsedNode
+    requires { ⌜ Ready (now s) (now store) p × (p .cur .start + 3 ≤ p .cur .end) × (1 ≤ markNumber mark) ⌝ }
+    ensures { λ r. ⌜ Builds (now (store .entry)) (now (store .exit)) (p .made) p (parseBrace (λ q. parseSingleNode «depth_left» (now (s .entry)) q) (now (s .entry)) k mark x p) r ⌝ }
+{
+    let begin = p.next_token(s);
+    match parse_single_node(s, store, begin, depth_left) {
+        ParsedNode::Refused(r) => ParsedNode::Refused(r),
+        ParsedNode::Node(target, q) => {
+            if !q.peek_token_is(mark) {
+                return make_leaf_second(store, q, k, target, Leaf::Operator(x));
+            }
+            let after = q.next_token(s);
+            let operand = after.next_token(s);
+            match parse_single_node(s, store, operand, depth_left) {
+                ParsedNode::Refused(r) => ParsedNode::Refused(r),
+                ParsedNode::Node(expl, r) => make_explained(store, r, k, x, target, expl),
+            }
+        }
+    }
+}
+
+// An operator with what stands below and above it, in either order.
+fn parse_limits(s: &[u8], store: &mut [u8], p: Parser, depth_left: usize, k: Limits) -> ParsedNode
+    requires { ⌜ Ready (now s) (now store) p × (p .cur .start + 3 ≤ p .cur .end) ⌝ }
+    ensures { λ r. ⌜ Builds (now (store .entry)) (now (store .exit)) (p .made) p (parseLimits (λ q. parseSingleNode «depth_left» (now (s .entry)) q) (now (s .entry)) k p) r ⌝ }
+{
+    let peek = p.peek;
+    let token = peek.token;
+    match script_of(token) {
+        Script::Neither => make_alone(store, p, k),
+        Script::Operand(over) => {
+            let mark = p.next_token(s);
+            let begin = mark.next_token(s);
+            match parse_single_node(s, store, begin, depth_left) {
+                ParsedNode::Refused(r) => ParsedNode::Refused(r),
+                ParsedNode::Node(x, q) => {
+                    if !q.peek_token_is(other_limit(over)) {
+                        return make_limit(store, q, k, over, x);
+                    }
+                    let after = q.next_token(s);
+                    let operand = after.next_token(s);
+                    match parse_single_node(s, store, operand, depth_left) {
+                        ParsedNode::Refused(r) => ParsedNode::Refused(r),
+                        ParsedNode::Node(y, r) => make_limits(store, r, k, over, x, y),
+                    }
+                }
+            }
+        }
+    }
+}
+
+// A limit with what stands below it.
+fn parse_lim(s: &[u8], store: &mut [u8], p: Parser, depth_left: usize, t: u32) -> ParsedNode
+    requires { ⌜ Ready (now s) (now store) p × (p .cur .start + 3 ≤ p .cur .end) ⌝ }
+    ensures { λ r. ⌜ Builds (now (store .entry)) (now (store .exit)) (p .made) p (parseLim (λ q. parseSingleNode «depth_left» (now (s .entry)) q) (now (s .entry)) t p) r ⌝ }
+{
+    if !p.peek_token_is(Mark::Underscore) {
+        return make_leaf(store, p, Leaf::Function(t));
+    }
+    let mark = p.next_token(s);
+    let begin = mark.next_token(s);
+    match parse_single_node(s, store, begin, depth_left) {
+        ParsedNode::Refused(r) => ParsedNode::Refused(r),
+        ParsedNode::Node(under, q) => make_leaf_first(
+            store,
+            q,
+            Two::Under,
+            Leaf::Function(t),
+            under,
+        ),
+    }
+}
+
+// A slashed node, whose braces are passed unseen.
+fn parse_slashed(s: &[u8], store: &mut [u8], p: Parser, depth_left: usize) -> ParsedNode
+    requires { ⌜ Ready (now s) (now store) p × (p .cur .start + 3 ≤ p .cur .end) ⌝ }
+    ensures { λ r. ⌜ Builds (now (store .entry)) (now (store .exit)) (p .made) p (parseSlashed (λ q. parseNode «depth_left» (now (s .entry)) q) (now (s .entry)) p) r ⌝ }
+{
+    let brace = p.next_token(s);
+    let begin = brace.next_token(s);
+    match parse_node(s, store, begin, depth_left) {
+        ParsedNode::Refused(r) => ParsedNode::Refused(r),
+        ParsedNode::Node(a, q) => {
+            let after = q.next_token(s);
+            make_one(store, after, One::Slashed, a)
+        }
+    }
+}
+
+// A node whose letters get a variant.
+fn parse_style(s: &[u8], store: &mut [u8], p: Parser, depth_left: usize, v: Variant) -> ParsedNode
+    requires { ⌜ Ready (now s) (now store) p × (p .cur .start + 3 ≤ p .cur .end) ⌝ }
+    ensures { λ r. ⌜ Builds (now (store .entry)) (now (store .exit)) (p .made) p (parseStyle (λ q. parseNode «depth_left» (now (s .entry)) q) (now (s .entry)) v p) r ⌝ }
+{
+    let begin = p.next_token(s);
+    match parse_node(s, store, begin, depth_left) {
+        ParsedNode::Refused(r) => ParsedNode::Refused(r),
+        ParsedNode::Node(i, q) => {
+            set_variant(store, i, v, q.made);
+            ParsedNode::Node(i, q)
+        }
+    }
+}
+
+// A group between two fences.
+fn parse_left(s: &[u8], store: &mut [u8], p: Parser, depth_left: usize) -> ParsedNode
+    requires { ⌜ Ready (now s) (now store) p × (p .cur .start + 3 ≤ p .cur .end) ⌝ }
+    ensures { λ r. ⌜ Builds (now (store .entry)) (now (store .exit)) (p .made) p (parseLeft (λ q. parseNode «depth_left» (now (s .entry)) q) (now (s .entry)) p) r ⌝ }
+{
+    let begin = p.next_token(s);
+    let cur = begin.cur;
+    let token = cur.token;
+    match fence_of(token) {
+        Fence::Missing => ParsedNode::Refused(Refusal::MissingParensethis),
+        Fence::Fixed(first) => {
+            match parse_group(s, store, begin, depth_left, Mark::Right) {
+                ParsedNode::Refused(r) => ParsedNode::Refused(r),
+                ParsedNode::Node(content, q) => {
+                    let after = q.next_token(s);
+                    make_fenced(store, after, first, content)
+                }
+            }
+        }
+    }
+}
+
+// A stretched operator.
+fn parse_middle(s: &[u8], store: &mut [u8], p: Parser, depth_left: usize) -> ParsedNode
+    requires { ⌜ Ready (now s) (now store) p × (p .cur .start + 3 ≤ p .cur .end) ⌝ }
+    ensures { λ r. ⌜ Builds (now (store .entry)) (now (store .exit)) (p .made) p (parseMiddle (λ q. parseSingleNode «depth_left» (now (s .entry)) q) (now (s .entry)) p) r ⌝ }
+{
+    let begin = p.next_token(s);
+    match parse_single_node(s, store, begin, depth_left) {
+        ParsedNode::Refused(r) => ParsedNode::Refused(r),
+        ParsedNode::Node(i, q) => make_stretched(store, q, i),
+    }
+}
+
+// An environment, which is looked up after its content is read; the name behind `\end` is passed unseen.
+fn parse_begin(s: &[u8], store: &mut [u8], p: Parser, depth_left: usize) -> ParsedNode
+    requires { ⌜ Ready (now s) (now store) p × (p .cur .start + 3 ≤ p .cur .end) ⌝ }
+    ensures { λ r. ⌜ Builds (now (store .entry)) (now (store .exit)) (p .made) p (parseBegin (λ q. parseNode «depth_left» (now (s .entry)) q) (now (s .entry)) p) r ⌝ }
+{
+    let begin = p.next_token(s);
+    let name = begin.parse_text(s);
+    let a = name.a;
+    let e = name.e;
+    let after = name.after;
+    match parse_group(s, store, after, depth_left, Mark::End) {
+        ParsedNode::Refused(r) => ParsedNode::Refused(r),
+        ParsedNode::Node(content, q) => {
+            let behind = q.next_token(s);
+            let last = behind.parse_text(s);
+            let env = environment_of(&s[a..e]);
+            let end = last.after;
+            make_environment(store, end, env, content)
+        }
+    }
+}
+
+// The nodes up to a token, as one node.
+fn parse_group(s: &[u8], store: &mut [u8], p: Parser, depth_left: usize, end: Mark) -> ParsedNode
+    requires { ⌜ Ready (now s) (now store) p × (1 ≤ markNumber end) ⌝ }
+    ensures { λ r. ⌜ Builds (now (store .entry)) (now (store .exit)) (p .made) p (parseGroup (λ q. parseNode «depth_left» (now (s .entry)) q) (now (s .entry)) end p) r ⌝ }
+{
+    let mut q = p.next_token(s);
+    let mut first: usize = 0;
+    let mut last: usize = 0;
+    let mut count: usize = 0;
+    loop {
+        if q.cur_token_is(Mark::EOF) {
+            return ParsedNode::Refused(Refusal::UnexpectedToken);
+        }
+        if q.cur_token_is(end) {
+            return make_row(store, q, first, count);
+        }
+        match parse_node(s, store, q, depth_left) {
+            ParsedNode::Refused(r) => {
+                return ParsedNode::Refused(r);
+            }
+            ParsedNode::Node(i, r) => {
+                first = append(store, first, last, count, i);
+                last = i;
+                count += 1;
+                q = r.next_token(s);
+            }
+        }
+    }
+}
