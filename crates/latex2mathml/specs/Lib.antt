@@ -1,4 +1,5 @@
 pub mod Outcome
 pub mod Translate
+pub mod Written
 pub mod Replace
 pub mod Marked

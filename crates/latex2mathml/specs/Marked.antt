@@ -16,12 +16,12 @@ use Rattle.ast.specs.Tree.{ast-opens}
 use Rattle.markup.specs.Examples.{markup-opens}
 use Rattle.parser.specs.Examples.{parse-opens}
 use Rattle.latex2mathml.specs.Outcome.{Outcome, bodyLimit, documentLimit, depthLimit, recordSize, _>>=_, refuse, numberOf, bytesOf}
-use Rattle.latex2mathml.specs.Translate.{convertContent, latexToMathml, storeTooSmall, translate}
+use Rattle.latex2mathml.specs.Translate.{convertContent, inMath, latexToMathml, storeTooSmall, translate}
 use Rattle.latex2mathml.specs.Replace.{dollar, twoDollars, threeDollars, places, odd, translateBody, substitute, firstPass, secondPass, replacement, Replaced, replaceOutcome, replace}
 
 -- whoever unfolds this unfolds all definitions of this crate and of those below it, as an example has to
 unfoldable pub latex2mathml-opens : Unit {0}
-unfolding text-opens attribute-opens number token-opens lexer-opens ast-opens markup-opens parse-opens bodyLimit documentLimit depthLimit recordSize _>>=_ refuse numberOf bytesOf convertContent latexToMathml storeTooSmall translate dollar twoDollars threeDollars places odd translateBody substitute firstPass secondPass replacement replaceOutcome replace
+unfolding text-opens attribute-opens number token-opens lexer-opens ast-opens markup-opens parse-opens bodyLimit documentLimit depthLimit recordSize _>>=_ refuse numberOf bytesOf convertContent inMath latexToMathml storeTooSmall translate dollar twoDollars threeDollars places odd translateBody substitute firstPass secondPass replacement replaceOutcome replace
 latex2mathml-opens = tt
 
 -- a line: a body with its markup, the wrapper left off, or with the number of its refusal; the length of the empty body's

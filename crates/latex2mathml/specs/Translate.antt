@@ -17,10 +17,15 @@ use Rattle.latex2mathml.specs.Outcome.{Outcome, accepted, refused, _>>=_
 unfoldable pub convertContent : List ℕ → Outcome (List ℕ)
 convertContent s = elim (parse depthLimit s) [ Parsed.made ns p ↦ accepted (printAll s ns) | Parsed.refused r ↦ refused r ]
 
+-- the markup of a body in its wrapper
+unfoldable pub inMath : DisplayStyle → List ℕ → List ℕ
+inMath display mathml =
+    bytes "<math xmlns=\"http://www.w3.org/1998/Math/MathML\" display=\"" ++ bytes (displayStyle display) ++ bytes "\">" ++ mathml ++ bytes "</math>"
+
 unfoldable pub latexToMathml : List ℕ → DisplayStyle → Outcome (List ℕ)
 latexToMathml s display = do
   mathml ← convertContent s
-  accepted (bytes "<math xmlns=\"http://www.w3.org/1998/Math/MathML\" display=\"" ++ bytes (displayStyle display) ++ bytes "\">" ++ mathml ++ bytes "</math>")
+  accepted (inMath display mathml)
 
 -- a store of `store` bytes has fewer records than twice the body's bytes
 unfoldable pub storeTooSmall : ℕ → List ℕ → Outcome (Unit {0})

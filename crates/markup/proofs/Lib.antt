@@ -1,3 +1,4 @@
 pub mod FrontLaws
 pub mod LeafLaws
 pub mod PrintLaws
+pub mod ShortLaws

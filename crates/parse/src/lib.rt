@@ -1,4 +1,6 @@
 // The parser: the functions of the Rust's parse.rs that call one another.
+pub mod body;
+
 use ast::Leaf;
 use ast::One;
 use ast::Two;
@@ -42,6 +44,13 @@ ghost use Rattle.ast.specs.declared.Leaf.the-variants.{FunctionName, Text};
 ghost use Rattle.token.specs.Roles.{markNumber};
 ghost use Rattle.parser.specs.Parse.{build, parseNode, parseSingleNode, parseGroup, parseSqrt, parseTwo, parseOne, parseBrace, parseLimits, parseLim, parseSlashed, parseStyle, parseLeft, parseMiddle, parseBig, parseBegin, parseTextLeaf, parseBare, primed};
 ghost use Rattle.parser.specs.Built.{Ready, Free, Primed, Builds, BuildsOne};
+
+// The Rust's `Result<Vec<Node>, LatexError>`: the index of the first of some nodes, linked by next, how many they are, and how many records
+// are made; or why there are none.
+pub enum ParsedNodes {
+    Nodes(usize, usize, usize),
+    Refused(Refusal),
+}
 
 // A node with the scripts behind it.
 pub fn parse_node(s: &[u8], store: &mut [u8], p: Parser, depth_left: usize) -> ParsedNode

@@ -17,7 +17,8 @@ use Rattle.parser.proofs.MoveLaws.{text-sound}
 use Rattle.parse.proofs.RoomLaws.{Starts, Ends, starts-ready, ready-starts, ready-ends, ends-next, starts-next, ends-mark, starts-text, ends-free, starts-free, node-ends, group-ends, ready-node, ready-free, prime-free, wide-3, next-made, text-made, bare-keeps}
 use Rattle.parse.proofs.SeqLaws.{after-none, only, after-one, first-below, after-two, after-two-swapped, after-set, bare-as}
 use Rattle.parse.proofs.LeafLaws.{bare-leaf, leaf-placed}
-use Rattle.parse.proofs.GroupLaws.{Loops, loops-none, loops-ready, loops-few, loops-free, loops-end, loops-refused, loops-closed, more-ends, more-append, more-turns, more-less}
+use Rattle.parse.proofs.LoopLaws.{loops-none, loops-ready, loops-few, loops-free, more-ends, more-append, more-less}
+use Rattle.parse.proofs.GroupLaws.{GroupLoop, group-end, group-refused, group-closed, group-turns}
 use Rattle.parse.proofs.WayLaws.{one-no, one-is, style-no, style-is, middle-no, middle-is, two-no, two-no-2, two-is, brace-no, brace-bare, brace-no-2, brace-is, sqrt-no, sqrt-is, root-no, root-no-2, root-is, slashed-no, slashed-is, fence-none, fence-some, left-no, left-no-2, left-is, begin-no, begin-is, script-mark, scriptMark, node-no, node-bare, script-no, script-is, limits-alone, limits-no, limit-is, limits-no-2, limits-is, lim-alone, lim-no, lim-is, node-zero, single-zero, node-more, single-more, bare-no, bare-is, group-is, script-byte, other-byte}
 use borrow.Author.Needs.{needs}
 use native.Mathlib.Omega.{arith}
@@ -880,7 +881,7 @@ parse-brace-returns-4 t c =
 
 abbrev parse-group-Inv-loop : parse-group-lts.InvT-loop
 parse-group-Inv-loop s store₀ depth-left end q₀ first₀ last₀ count₀ store q first last count =
-    (length store ≡ length store₀) × Loops s (λ x. parseNode depth-left s x) end q₀ store₀ store q first last count
+    (length store ≡ length store₀) × GroupLoop s (λ x. parseNode depth-left s x) end q₀ store₀ store q first last count
 
 abbrev parse-group-μ-loop : parse-group-lts.MeasureT-loop
 parse-group-μ-loop s store₀ depth-left end q₀ first₀ last₀ count₀ store q first last count =
@@ -891,7 +892,7 @@ parse-group-next-token-requires t c κs = (c .before .before .pre) .1 .0 .sound 
 
 parse-group-loop-holds : (t : ℕ) → parse-group-lts.Need-loop-holds (parse-group-calls t) (parse-group-at t) parse-group.Post parse-group-Inv-loop parse-group-μ-loop
 parse-group-loop-holds t c =
-    (refl, loops-none ((c .before .before .before .args) .s .now) (λ q. parseNode ((c .before .before .before .args) .depth-left) ((c .before .before .before .args) .s .now) q) ((c .before .before .before .args) .end) _ _ _ (starts-next (ready-starts ((c .before .before .before .pre) .1 .0)) ((c .next-token) .ensures)))
+    (refl, loops-none (starts-next (ready-starts ((c .before .before .before .pre) .1 .0)) ((c .next-token) .ensures)))
 
 parse-group-cur-token-is-requires : (t : ℕ) → parse-group-lts.Need-cur-token-is-requires (parse-group-calls t) (parse-group-at t) parse-group.Post parse-group-Inv-loop parse-group-μ-loop
 parse-group-cur-token-is-requires t c κs = search needs
@@ -901,7 +902,7 @@ parse-group-same-length t c = search needs
 
 parse-group-returns : (t : ℕ) → parse-group-lts.Need-returns (parse-group-calls t) (parse-group-at t) parse-group.Post parse-group-Inv-loop parse-group-μ-loop
 parse-group-returns t c =
-    loops-end ((c .before .before .loop) .inv .1) ((c .before .before .before .before .before .before .args) .p) _ (sym ((c .before .cur-token-is) .ensures) ∙ (c .if1) .taken) (group-is (λ q. parseNode ((c .before .before .before .before .before .before .args) .depth-left) ((c .before .before .before .before .before .before .args) .s .now) q) ((c .before .before .before .before .before .before .args) .s .now) ((c .before .before .before .before .before .before .args) .end) ((c .before .before .before .before .before .before .args) .p) ((c .before .before .before .next-token) .ensures))
+    group-end (λ q. parseNode ((c .before .before .before .before .before .before .args) .depth-left) ((c .before .before .before .before .before .before .args) .s .now) q) ((c .before .before .before .before .before .before .args) .s .now) ((c .before .before .before .before .before .before .args) .end) ((c .before .before .loop) .inv .1) ((c .before .before .before .before .before .before .args) .p) _ (sym ((c .before .cur-token-is) .ensures) ∙ (c .if1) .taken) (group-is (λ q. parseNode ((c .before .before .before .before .before .before .args) .depth-left) ((c .before .before .before .before .before .before .args) .s .now) q) ((c .before .before .before .before .before .before .args) .s .now) ((c .before .before .before .before .before .before .args) .end) ((c .before .before .before .before .before .before .args) .p) ((c .before .before .before .next-token) .ensures))
 
 parse-group-cur-token-is-requires-2 : (t : ℕ) → parse-group-lts.Need-cur-token-is-requires-2 (parse-group-calls t) (parse-group-at t) parse-group.Post parse-group-Inv-loop parse-group-μ-loop
 parse-group-cur-token-is-requires-2 t c κs = search needs
@@ -919,7 +920,7 @@ parse-group-same-length-2 t c =
 
 parse-group-returns-2 : (t : ℕ) → parse-group-lts.Need-returns-2 (parse-group-calls t) (parse-group-at t) parse-group.Post parse-group-Inv-loop parse-group-μ-loop
 parse-group-returns-2 t c =
-    loops-closed ((c .before .before .before .before .before .before .before .before .loop) .inv .1) _ ((c .before .before .before .before .before .before .before .before .before .before .before .before .args) .p) _ ((c .before .before .make-row) .result) (sym ((c .before .before .before .before .before .before .before .cur-token-is) .ensures) ∙ (c .before .before .before .before .before .before .if1) .left) (sym ((c .before .before .before .before .before .cur-token-is2) .ensures) ∙ (c .before .before .before .before .if2) .taken) (next-made ((c .before .before .before .before .before .before .before .before .before .before .before .before .args) .s .now) ((c .before .before .before .before .before .before .before .before .before .before .before .before .args) .p) ((c .before .before .before .before .before .before .before .before .before .next-token) .ensures)) (group-is (λ q. parseNode ((c .before .before .before .before .before .before .before .before .before .before .before .before .args) .depth-left) ((c .before .before .before .before .before .before .before .before .before .before .before .before .args) .s .now) q) ((c .before .before .before .before .before .before .before .before .before .before .before .before .args) .s .now) ((c .before .before .before .before .before .before .before .before .before .before .before .before .args) .end) ((c .before .before .before .before .before .before .before .before .before .before .before .before .args) .p) ((c .before .before .before .before .before .before .before .before .before .next-token) .ensures)) ((c .before .before .make-row) .ensures)
+    group-closed (λ q. parseNode ((c .before .before .before .before .before .before .before .before .before .before .before .before .args) .depth-left) ((c .before .before .before .before .before .before .before .before .before .before .before .before .args) .s .now) q) ((c .before .before .before .before .before .before .before .before .before .before .before .before .args) .s .now) ((c .before .before .before .before .before .before .before .before .before .before .before .before .args) .end) ((c .before .before .before .before .before .before .before .before .loop) .inv .1) _ ((c .before .before .before .before .before .before .before .before .before .before .before .before .args) .p) _ ((c .before .before .make-row) .result) (sym ((c .before .before .before .before .before .before .before .cur-token-is) .ensures) ∙ (c .before .before .before .before .before .before .if1) .left) (sym ((c .before .before .before .before .before .cur-token-is2) .ensures) ∙ (c .before .before .before .before .if2) .taken) (next-made ((c .before .before .before .before .before .before .before .before .before .before .before .before .args) .s .now) ((c .before .before .before .before .before .before .before .before .before .before .before .before .args) .p) ((c .before .before .before .before .before .before .before .before .before .next-token) .ensures)) (group-is (λ q. parseNode ((c .before .before .before .before .before .before .before .before .before .before .before .before .args) .depth-left) ((c .before .before .before .before .before .before .before .before .before .before .before .before .args) .s .now) q) ((c .before .before .before .before .before .before .before .before .before .before .before .before .args) .s .now) ((c .before .before .before .before .before .before .before .before .before .before .before .before .args) .end) ((c .before .before .before .before .before .before .before .before .before .before .before .before .args) .p) ((c .before .before .before .before .before .before .before .before .before .next-token) .ensures)) ((c .before .before .make-row) .ensures)
 
 parse-group-parse-node-requires : (t : ℕ) → parse-group-lts.Need-parse-node-requires (parse-group-calls t) (parse-group-at t) parse-group.Post parse-group-Inv-loop parse-group-μ-loop
 parse-group-parse-node-requires t c κs =
@@ -936,7 +937,7 @@ parse-group-same-length-3 t c =
 parse-group-returns-3 : (t : ℕ) → parse-group-lts.Need-returns-3 (parse-group-calls t) (parse-group-at t) parse-group.Post parse-group-Inv-loop parse-group-μ-loop
 parse-group-returns-3 t c =
     let g = rw ((c .before .r) .given .1) at ((c .before .before .before .before .before .parse-node) .ensures) in
-    loops-refused ((c .before .before .before .before .before .before .before .before .before .before .before .loop) .inv .1) _ (sym ((c .before .before .before .before .before .before .before .before .before .before .cur-token-is) .ensures) ∙ (c .before .before .before .before .before .before .before .before .before .if1) .left) (sym ((c .before .before .before .before .before .before .before .before .cur-token-is2) .ensures) ∙ (c .before .before .before .before .before .before .before .if2) .left) g (group-is (λ q. parseNode ((c .before .before .before .before .before .before .before .before .before .before .before .before .before .before .before .args) .depth-left) ((c .before .before .before .before .before .before .before .before .before .before .before .before .before .before .before .args) .s .now) q) ((c .before .before .before .before .before .before .before .before .before .before .before .before .before .before .before .args) .s .now) ((c .before .before .before .before .before .before .before .before .before .before .before .before .before .before .before .args) .end) ((c .before .before .before .before .before .before .before .before .before .before .before .before .before .before .before .args) .p) ((c .before .before .before .before .before .before .before .before .before .before .before .before .next-token) .ensures))
+    group-refused (λ q. parseNode ((c .before .before .before .before .before .before .before .before .before .before .before .before .before .before .before .args) .depth-left) ((c .before .before .before .before .before .before .before .before .before .before .before .before .before .before .before .args) .s .now) q) ((c .before .before .before .before .before .before .before .before .before .before .before .before .before .before .before .args) .s .now) ((c .before .before .before .before .before .before .before .before .before .before .before .before .before .before .before .args) .end) ((c .before .before .before .before .before .before .before .before .before .before .before .loop) .inv .1) _ (sym ((c .before .before .before .before .before .before .before .before .before .before .cur-token-is) .ensures) ∙ (c .before .before .before .before .before .before .before .before .before .if1) .left) (sym ((c .before .before .before .before .before .before .before .before .cur-token-is2) .ensures) ∙ (c .before .before .before .before .before .before .before .if2) .left) g (group-is (λ q. parseNode ((c .before .before .before .before .before .before .before .before .before .before .before .before .before .before .before .args) .depth-left) ((c .before .before .before .before .before .before .before .before .before .before .before .before .before .before .before .args) .s .now) q) ((c .before .before .before .before .before .before .before .before .before .before .before .before .before .before .before .args) .s .now) ((c .before .before .before .before .before .before .before .before .before .before .before .before .before .before .before .args) .end) ((c .before .before .before .before .before .before .before .before .before .before .before .before .before .before .before .args) .p) ((c .before .before .before .before .before .before .before .before .before .before .before .before .next-token) .ensures))
 
 parse-group-enum-known-i : (t : ℕ) → parse-group-lts.Need-enum-known-i (parse-group-calls t) (parse-group-at t) parse-group.Post parse-group-Inv-loop parse-group-μ-loop
 parse-group-enum-known-i t c = search needs
@@ -969,7 +970,7 @@ parse-group-loop-less t c =
 parse-group-loop-again : (t : ℕ) → parse-group-lts.Need-loop-again (parse-group-calls t) (parse-group-at t) parse-group.Post parse-group-Inv-loop parse-group-μ-loop
 parse-group-loop-again t c =
     let g = rw ((c .before .before .before .before .before .before .i) .given .1) at ((c .before .before .before .before .before .before .before .before .before .before .parse-node) .ensures) in
-    ((c .before .before .before .append) .kept .0 ∙ (c .before .before .before .before .before .before .before .before .before .before .parse-node) .kept .1 .0 ∙ (c .before .before .before .before .before .before .before .before .before .before .before .before .before .before .before .before .loop) .inv .0, more-turns ((c .before .before .before .before .before .before .before .before .before .before .before .before .before .before .before .before .loop) .inv .1) (node-keeps ((c .before .before .before .before .before .before .before .before .before .before .before .before .before .before .before .before .before .before .before .before .args) .depth-left) ((c .before .before .before .before .before .before .before .before .before .before .before .before .before .before .before .before .before .before .before .before .args) .s .now)) (sym ((c .before .before .before .before .before .before .before .before .before .before .before .before .before .before .before .cur-token-is) .ensures) ∙ (c .before .before .before .before .before .before .before .before .before .before .before .before .before .before .if1) .left) ((c .before .before .before .before .before .before .before .before .before .before .parse-node) .kept .1 .0) g _ _ _ ((c .before .before .before .append) .kept .0) (sym ((c .before .before .before .before .before .before .before .before .before .before .before .before .before .cur-token-is2) .ensures) ∙ (c .before .before .before .before .before .before .before .before .before .before .before .before .if2) .left) ((c .before .before .before .append) .ensures) ((c .next-token2) .ensures))
+    ((c .before .before .before .append) .kept .0 ∙ (c .before .before .before .before .before .before .before .before .before .before .parse-node) .kept .1 .0 ∙ (c .before .before .before .before .before .before .before .before .before .before .before .before .before .before .before .before .loop) .inv .0, group-turns (λ q. parseNode ((c .before .before .before .before .before .before .before .before .before .before .before .before .before .before .before .before .before .before .before .before .args) .depth-left) ((c .before .before .before .before .before .before .before .before .before .before .before .before .before .before .before .before .before .before .before .before .args) .s .now) q) ((c .before .before .before .before .before .before .before .before .before .before .before .before .before .before .before .before .before .before .before .before .args) .s .now) ((c .before .before .before .before .before .before .before .before .before .before .before .before .before .before .before .before .before .before .before .before .args) .end) ((c .before .before .before .before .before .before .before .before .before .before .before .before .before .before .before .before .loop) .inv .1) (node-keeps ((c .before .before .before .before .before .before .before .before .before .before .before .before .before .before .before .before .before .before .before .before .args) .depth-left) ((c .before .before .before .before .before .before .before .before .before .before .before .before .before .before .before .before .before .before .before .before .args) .s .now)) (sym ((c .before .before .before .before .before .before .before .before .before .before .before .before .before .before .before .cur-token-is) .ensures) ∙ (c .before .before .before .before .before .before .before .before .before .before .before .before .before .before .if1) .left) ((c .before .before .before .before .before .before .before .before .before .before .parse-node) .kept .1 .0) g _ _ _ ((c .before .before .before .append) .kept .0) (sym ((c .before .before .before .before .before .before .before .before .before .before .before .before .before .cur-token-is2) .ensures) ∙ (c .before .before .before .before .before .before .before .before .before .before .before .before .if2) .left) ((c .before .before .before .append) .ensures) ((c .next-token2) .ensures))
 
 parse-left-next-token-requires : (t : ℕ) → parse-left-lts.Need-next-token-requires (parse-left-calls t) (parse-left-at t) parse-left.Post
 parse-left-next-token-requires t c κs = (c .before .before .pre) .1 .0 .sound .peek .inside

@@ -1,0 +1,3 @@
+pub mod MathLaws
+pub mod TranslateLaws
+pub mod BodyLaws

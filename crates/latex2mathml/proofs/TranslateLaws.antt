@@ -1,0 +1,106 @@
+-- What the translation of a body gives, test by test.
+-- Assumes nothing.
+use mathlib.Core.Path.{_≡_, refl, sym, _∙_, ap}
+use mathlib.Core.Bool.{Bool, true, false, not}
+use mathlib.Core.List.{List, [], _++_}
+use Prim.Native.Nat.{ℕ, _+_, _*_, _/_, _^_, _≤_, _<_}
+use native.Mathlib.Omega.{arith}
+use native.Mathlib.Nat.{mul-le-mul, le-trans}
+use lib.Dec.{ltb}
+use lib.ListN.{length, drop, length-append}
+use borrow.Author.Tests.{lt-ltb, le-ltb}
+use Rattle.text.specs.Utf8.{wellFormed}
+use Rattle.text.specs.Text.{bytes}
+use Rattle.text.specs.Put.{Room, Puts}
+use Rattle.text.specs.Examples.{text-opens}
+use Rattle.text.proofs.Cases.{never, by-test}
+use Rattle.text.proofs.PutLaws.{puts-all}
+use Rattle.attribute.specs.declared.DisplayStyle.{DisplayStyle}
+use Rattle.attribute.specs.Names.{displayStyle}
+use Rattle.error.specs.declared.Refusal.{Refusal}
+use Rattle.ast.specs.Tree.{Nodes, sizes}
+use Rattle.ast.specs.Held.{count}
+use Rattle.markup.specs.Print.{printAll}
+use Rattle.markup.proofs.ShortLaws.{most, short-all}
+use Rattle.parser.specs.declared.Parser.{Parser}
+use Rattle.parser.specs.Parse.{Parsed, parse}
+use Rattle.parse.specs.Body.{parseBody, StoresBody}
+use Rattle.print.specs.Shown.{NodesAt, Printable, Prints}
+use Rattle.latex2mathml.specs.declared.Answer.{Answer}
+use Rattle.latex2mathml.specs.Outcome.{Outcome, accepted, refused, _>>=_, refuse, bodyLimit, depthLimit, recordSize, bytesOf}
+use Rattle.latex2mathml.specs.Translate.{convertContent, inMath, latexToMathml, storeTooSmall, translate}
+use Rattle.latex2mathml.specs.Written.{answerOf, over}
+
+-- what the operation answers and writes where the translation gives o
+pub record Gives (want : Outcome (List ℕ)) (r : Answer) (o o′ : List ℕ) : Type 0 where
+  pub answer : r ≡ answerOf want
+  pub output : o′ ≡ over (bytesOf want) o
+
+module _ (s : List ℕ) (display : DisplayStyle) (store room : ℕ) where
+  pub too-long : 4096 < length s → translate s display store room ≡ refused Refusal.TooLong
+  unfolding translate refuse _>>=_ bodyLimit
+  too-long h = rw (translate, lt-ltb 4096 (length s) h)
+
+  pub ill-formed : length s ≤ 4096 → wellFormed s ≡ false → translate s display store room ≡ refused Refusal.IllFormed
+  unfolding translate refuse _>>=_ bodyLimit not
+  ill-formed h e = rw (translate, le-ltb 4096 (length s) h, e)
+
+  module _ (h : length s ≤ 4096) (e : wellFormed s ≡ true) where
+    pub body-no : {r : Refusal} → parseBody 256 s store ≡ Parsed.refused r → translate s display store room ≡ refused r
+    unfolding translate refuse _>>=_ bodyLimit not storeTooSmall recordSize latexToMathml convertContent depthLimit parseBody
+    body-no {r} f =
+        by-test (ltb (store / 24) (2 * length s))
+        (λ t.
+        let g = rw (parseBody, le-ltb 4096 (length s) h, t) at f in
+        let q : Refusal.StoreTooSmall ≡ r = cc in
+        rw (← q) (rw (translate, le-ltb 4096 (length s) h, e, storeTooSmall, t)))
+        (λ t.
+        let g = rw (parseBody, le-ltb 4096 (length s) h, t) at f in
+        rw (translate, le-ltb 4096 (length s) h, e, storeTooSmall, t, latexToMathml, convertContent, g))
+
+    pub body-is : {ns : Nodes} {p : Parser} → parseBody 256 s store ≡ Parsed.made ns p
+        → translate s display store room ≡ (refuse (ltb room (length (inMath display (printAll s ns)))) Refusal.OutputTooSmall >>= (λ u. accepted (inMath display (printAll s ns))))
+    unfolding translate refuse _>>=_ bodyLimit not storeTooSmall recordSize latexToMathml convertContent depthLimit parseBody
+    body-is {ns} {p} f =
+        by-test (ltb (store / 24) (2 * length s))
+        (λ t. let g = rw (parseBody, le-ltb 4096 (length s) h, t) at f in never cc)
+        (λ t.
+        let g = rw (parseBody, le-ltb 4096 (length s) h, t) at f in
+        rw (translate, le-ltb 4096 (length s) h, e, storeTooSmall, t, latexToMathml, convertContent, g))
+
+    pub body-too-large : {ns : Nodes} {p : Parser} → parseBody 256 s store ≡ Parsed.made ns p → room < length (inMath display (printAll s ns)) → translate s display store room ≡ refused Refusal.OutputTooSmall
+    unfolding refuse _>>=_
+    body-too-large {ns} f g = body-is f ∙ rw (lt-ltb room (length (inMath display (printAll s ns))) g)
+
+    pub body-fits : {ns : Nodes} {p : Parser} → parseBody 256 s store ≡ Parsed.made ns p → length (inMath display (printAll s ns)) ≤ room → translate s display store room ≡ accepted (inMath display (printAll s ns))
+    unfolding refuse _>>=_
+    body-fits {ns} f g = body-is f ∙ rw (le-ltb room (length (inMath display (printAll s ns))) g)
+
+-- a refusal leaves the output as it was
+pub gives-nothing : {want : Outcome (List ℕ)} {r : Refusal} (o : List ℕ) → want ≡ refused r → Gives want (Answer.Refused r) o o
+unfolding answerOf over bytesOf
+gives-nothing o e = rw e (record { answer = refl; output = refl })
+
+-- what is accepted stands at the front of the output
+pub gives-markup : {want : Outcome (List ℕ)} {m o o′ : List ℕ} {n r : ℕ} → want ≡ accepted m → n ≡ 0 + length m → Puts true o o′ 0 m r → Gives want (Answer.Accepted n) o o′
+unfolding answerOf over bytesOf
+gives-markup {want} {m} {o} {o′} {n} e long p =
+    let l : n ≡ length m = omega arith in
+    rw e (record { answer = ap (λ x. Answer.Accepted x) l; output = puts-all p })
+
+-- the opening and the closing of the wrapper are short
+style-short : (display : DisplayStyle) → length (bytes (displayStyle display)) ≤ 6
+unfolding text-opens displayStyle
+style-short DisplayStyle.Block = omega arith
+style-short DisplayStyle.Inline = omega arith
+
+-- the markup of a body is a number of the machine long
+pub math-small : (s : List ℕ) (display : DisplayStyle) (ns : Nodes) → length s ≤ 4096 → sizes ns ≤ 2 * length s → length (inMath display (printAll s ns)) < 2 ^ 64
+unfolding inMath text-opens
+math-small s display ns h few =
+    let a = short-all s ns in
+    let x : sizes ns ≤ 8192 = omega arith in
+    let y : most (length s) ≤ most 4096 = omega arith in
+    let b : sizes ns * most (length s) ≤ 8192 * most 4096 = mul-le-mul x y in
+    let c = style-short display in
+    simp length-append (omega arith)

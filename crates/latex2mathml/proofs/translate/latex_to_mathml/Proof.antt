@@ -1,0 +1,109 @@
+-- `latex2mathml::translate::latex_to_mathml` meets its contract.
+-- Assumes nothing.
+use mathlib.Core.Path.{sym, _∙_}
+use lib.ListN.{length}
+use borrow.Author.Tests.{not-true, not-false}
+use Rattle.latex2mathml.proofs.TranslateLaws.{too-long, ill-formed, body-no, gives-nothing}
+use Rattle.latex2mathml.proofs.BodyLaws.{few-nodes, able-count, able-write, too-large, written}
+use borrow.Author.Needs.{needs}
+use native.Mathlib.Omega.{arith}
+use Rattle.latex2mathml.proofs.translate.latex_to_mathml.Statement.{statement}
+use Rattle.latex2mathml.proofs.translate.latex_to_mathml.Tie as tie
+use Rattle.latex2mathml.proofs.translate.latex_to_mathml.Reads as reads
+use Rattle.latex2mathml.proofs.translate.latex_to_mathml.Lts as lts
+use Rattle.latex2mathml.proofs.translate.put_math.Reads as put-math-reads
+use Rattle.parse.proofs.body.parse.Reads as parse-reads
+use Rattle.text.proofs.well_formed.Reads as well-formed-reads
+
+returns : tie.Need-returns
+returns c =
+    let g = gives-nothing ((c .before .before .before .before .args) .out .now) (too-long ((c .before .before .before .before .args) .s .now) ((c .before .before .before .before .args) .display) (length ((c .before .before .before .before .args) .store .now)) (length ((c .before .before .before .before .args) .out .now)) ((c .if1) .taken)) in
+    (g .answer, g .output)
+
+well-formed-requires : tie.Need-well-formed-requires
+well-formed-requires c κs = search needs
+
+returns-2 : tie.Need-returns-2
+returns-2 c =
+    let g = gives-nothing ((c .before .before .before .before .before .before .args) .out .now) (ill-formed ((c .before .before .before .before .before .before .args) .s .now) ((c .before .before .before .before .before .before .args) .display) (length ((c .before .before .before .before .before .before .args) .store .now)) (length ((c .before .before .before .before .before .before .args) .out .now)) ((c .before .before .if1) .left) (sym ((c .before .well-formed) .ensures) ∙ not-true _ ((c .if2) .taken))) in
+    (g .answer, g .output)
+
+parse-requires : tie.Need-parse-requires
+parse-requires c κs = search needs
+
+enum-known-r : tie.Need-enum-known-r
+enum-known-r c = search needs
+
+enum-known-first : tie.Need-enum-known-first
+enum-known-first c = search needs
+
+cast-n : tie.Need-cast-n
+cast-n c =
+    let b = rw ((c .before .first) .given .1) at ((c .before .before .before .before .before .parse) .ensures) in
+    let f = few-nodes (length ((c .before .before .before .before .before .before .before .before .before .before .before .before .before .args) .store .now)) b ((c .before .before .before .before .before .before .before .before .before .if1) .left) in
+    omega arith
+
+put-math-requires : tie.Need-put-math-requires
+put-math-requires c κs =
+    let b = rw ((c .before .before .before .first) .given .1) at ((c .before .before .before .before .before .before .before .parse) .ensures) in
+    able-count (length ((c .before .before .before .before .before .before .before .before .before .before .before .before .before .before .before .args) .store .now)) b ((c .before .before .before .before .before .before .before .before .before .before .before .before .before .before .before .args) .display) ((c .before .before .before .before .before .before .before .before .before .before .before .if1) .left) _
+
+same-length : tie.Need-same-length
+same-length c = search needs
+
+same-length-2 : tie.Need-same-length-2
+same-length-2 c = search needs
+
+returns-3 : tie.Need-returns-3
+returns-3 c =
+    let b = rw ((c .before .before .before .before .before .before .before .first) .given .1) at ((c .before .before .before .before .before .before .before .before .before .before .before .parse) .ensures) in
+    let g = too-large (length ((c .before .before .before .before .before .before .before .before .before .before .before .before .before .before .before .before .before .before .before .args) .store .now)) b ((c .before .before .before .before .before .before .before .before .before .before .before .before .before .before .before .before .before .before .before .args) .display) ((c .before .before .before .before .before .before .before .before .before .before .before .before .before .before .before .if1) .left) ((c .before .before .before .put-math) .ensures) (sym ((c .before .before .before .before .before .before .before .before .before .before .before .before .before .before .well-formed) .ensures) ∙ not-false _ ((c .before .before .before .before .before .before .before .before .before .before .before .before .before .if2) .left)) ((c .if3) .taken) in
+    (g .answer, g .output)
+
+put-math-requires-2 : tie.Need-put-math-requires-2
+put-math-requires-2 c κs =
+    let b = rw ((c .before .before .before .before .before .before .before .before .before .first) .given .1) at ((c .before .before .before .before .before .before .before .before .before .before .before .before .before .parse) .ensures) in
+    able-write (length ((c .before .before .before .before .before .before .before .before .before .before .before .before .before .before .before .before .before .before .before .before .before .args) .store .now)) b ((c .before .before .before .before .before .before .before .before .before .before .before .before .before .before .before .before .before .before .before .before .before .args) .display) ((c .before .before .before .before .before .before .before .before .before .before .before .before .before .before .before .before .before .if1) .left) ((c .before .before .before .before .before .put-math) .ensures) ((c .before .before .if3) .left)
+
+same-length-3 : tie.Need-same-length-3
+same-length-3 c = search needs
+
+returns-4 : tie.Need-returns-4
+returns-4 c =
+    let b = rw ((c .before .r) .given .1) at ((c .before .before .before .before .before .parse) .ensures) in
+    let g = gives-nothing ((c .before .before .before .before .before .before .before .before .before .before .before .before .before .args) .out .now) (body-no ((c .before .before .before .before .before .before .before .before .before .before .before .before .before .args) .s .now) ((c .before .before .before .before .before .before .before .before .before .before .before .before .before .args) .display) (length ((c .before .before .before .before .before .before .before .before .before .before .before .before .before .args) .store .now)) (length ((c .before .before .before .before .before .before .before .before .before .before .before .before .before .args) .out .now)) ((c .before .before .before .before .before .before .before .before .before .if1) .left) (sym ((c .before .before .before .before .before .before .before .before .well-formed) .ensures) ∙ not-false _ ((c .before .before .before .before .before .before .before .if2) .left)) b) in
+    (g .answer, g .output)
+
+same-length-4 : tie.Need-same-length-4
+same-length-4 c = search needs
+
+same-length-5 : tie.Need-same-length-5
+same-length-5 c = search needs
+
+returns-5 : tie.Need-returns-5
+returns-5 c =
+    let b = rw ((c .before .before .before .before .before .before .before .before .before .before .before .before .first) .given .1) at ((c .before .before .before .before .before .before .before .before .before .before .before .before .before .before .before .before .parse) .ensures) in
+    let g = written (length ((c .before .before .before .before .before .before .before .before .before .before .before .before .before .before .before .before .before .before .before .before .before .before .before .before .args) .store .now)) b ((c .before .before .before .before .before .before .before .before .before .before .before .before .before .before .before .before .before .before .before .before .before .before .before .before .args) .display) ((c .before .before .before .before .before .before .before .before .before .before .before .before .before .before .before .before .before .before .before .before .if1) .left) ((c .before .before .before .before .before .before .before .before .put-math) .ensures) (sym ((c .before .before .before .before .before .before .before .before .before .before .before .before .before .before .before .before .before .before .before .well-formed) .ensures) ∙ not-false _ ((c .before .before .before .before .before .before .before .before .before .before .before .before .before .before .before .before .before .before .if2) .left)) ((c .before .before .before .before .before .if3) .left) ((c .before .before .put-math2) .ensures) in
+    (g .answer, g .output)
+
+pub latex-to-mathml-spec : {M : Type 1} → statement M
+latex-to-mathml-spec =
+    tie.close
+    (tie.spec
+    returns
+    well-formed-requires
+    returns-2
+    parse-requires
+    enum-known-r
+    enum-known-first
+    cast-n
+    put-math-requires
+    same-length
+    same-length-2
+    returns-3
+    put-math-requires-2
+    same-length-3
+    returns-4
+    same-length-4
+    same-length-5
+    returns-5)

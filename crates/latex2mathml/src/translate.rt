@@ -1,0 +1,81 @@
+// Body translation: the Rust's `latex_to_mathml`.
+use crate::Answer;
+use attribute::DisplayStyle;
+use attribute::put_display_style;
+use error::Refusal;
+use parse::ParsedNodes;
+use parse::body::parse;
+use print::Place;
+use print::print_nodes;
+use text::put::put;
+use text::well_formed;
+ghost use mathlib.Core.Path.{_≡_};
+ghost use mathlib.Core.List.{_++_};
+ghost use lib.ListN.{length};
+ghost use Rattle.text.specs.Text.{bytes};
+ghost use Rattle.text.specs.Put.{Room, Puts};
+ghost use Rattle.attribute.specs.Names.{displayStyle};
+ghost use Rattle.markup.specs.Print.{printAll};
+ghost use Rattle.print.specs.Shown.{NodesAt, Printable, Prints};
+ghost use Rattle.latex2mathml.specs.Translate.{inMath, translate};
+ghost use Rattle.latex2mathml.specs.Outcome.{bytesOf};
+ghost use Rattle.latex2mathml.specs.Written.{opening, answerOf, over};
+
+// Puts the opening tag of the wrapper.
+fn put_opening(display: DisplayStyle, out: &mut [u8], at: usize, write: bool) -> usize
+    requires { ⌜ Room write (now out) at (length (opening display)) ⌝ }
+    ensures { λ r. ⌜ Puts write (now (out .entry)) (now (out .exit)) at (opening display) r ⌝ }
+{
+    let name = put(
+        b"<math xmlns=\"http://www.w3.org/1998/Math/MathML\" display=\"",
+        out,
+        at,
+        write,
+    );
+    let end = put_display_style(display, out, name, write);
+    put(b"\">", out, end, write)
+}
+
+// Puts the markup of n nodes of the body from the index a on in its wrapper, or counts it.
+fn put_math(
+    s: &[u8],
+    display: DisplayStyle,
+    store: &[u8],
+    a: usize,
+    n: u32,
+    left: usize,
+    out: &mut [u8],
+    at: usize,
+    write: bool,
+) -> usize
+    requires { ⌜ Printable (NodesAt (now s) (now store) left a n) (λ ns. inMath display (printAll (now s) ns)) write (now out) at ⌝ }
+    ensures { λ r. ⌜ Prints (NodesAt (now (s .entry)) (now (store .entry)) left a n) (λ ns. inMath display (printAll (now (s .entry)) ns)) write (now (out .entry)) (now (out .exit)) at r ⌝ }
+{
+    let inner = put_opening(display, out, at, write);
+    let end = print_nodes(Place::Plain, s, store, a, n, left, out, inner, write);
+    put(b"</math>", out, end, write)
+}
+
+// The markup of a body, with the nodes of its tree in a lent store: measured, then written.
+pub fn latex_to_mathml(s: &[u8], display: DisplayStyle, store: &mut [u8], out: &mut [u8]) -> Answer
+    ensures { λ r. ⌜ (r ≡ answerOf (translate (now (s .entry)) display (length (now (store .entry))) (length (now (out .entry))))) × (now (out .exit) ≡ over (bytesOf (translate (now (s .entry)) display (length (now (store .entry))) (length (now (out .entry))))) (now (out .entry))) ⌝ }
+{
+    if 4096 < s.len() {
+        return Answer::Refused(Refusal::TooLong);
+    }
+    if !well_formed(s) {
+        return Answer::Refused(Refusal::IllFormed);
+    }
+    match parse(s, store, 256) {
+        ParsedNodes::Refused(r) => Answer::Refused(r),
+        ParsedNodes::Nodes(first, count, made) => {
+            let n = count as u32;
+            let length = put_math(s, display, store, first, n, made, out, 0, false);
+            if out.len() < length {
+                return Answer::Refused(Refusal::OutputTooSmall);
+            }
+            put_math(s, display, store, first, n, made, out, 0, true);
+            Answer::Accepted(length)
+        }
+    }
+}
