@@ -2,9 +2,31 @@
 pub mod translate;
 
 use error::Refusal;
+ghost use mathlib.Core.Path.{_≡_};
+ghost use Rattle.error.specs.Numbers.{number};
 
 // What an operation that writes gives: the length of what it wrote, or why it wrote nothing.
 pub enum Answer {
     Accepted(usize),
     Refused(Refusal),
+}
+
+// The number of a refusal in document 01.
+pub fn number(r: Refusal) -> u32
+    ensures { λ n. ⌜ n ≡ number r ⌝ }
+{
+    match r {
+        Refusal::TooLong => 1,
+        Refusal::IllFormed => 2,
+        Refusal::StoreTooSmall => 3,
+        Refusal::InvalidNumberOfDollarSigns => 4,
+        Refusal::ThreeDollarSigns => 5,
+        Refusal::UnexpectedToken => 6,
+        Refusal::MissingParensethis => 7,
+        Refusal::UnknownEnvironment => 8,
+        Refusal::MiddleOperand => 9,
+        Refusal::TooDeep => 10,
+        Refusal::WorkTooSmall => 11,
+        Refusal::OutputTooSmall => 12,
+    }
 }

@@ -1,11 +1,10 @@
 -- The nodes of a body, one turn of the loop after the other, and the limits before it.
 -- Assumes nothing.
-use mathlib.Core.Path.{_≡_, refl, sym, _∙_, ap}
+use mathlib.Core.Path.{_≡_, sym, _∙_, ap}
 use mathlib.Core.Bool.{true, false}
 use mathlib.Core.List.{List}
 use Prim.Native.Nat.{ℕ, zero, suc, _+_, _-_, _*_, _/_, _≤_, _<_}
 use native.Mathlib.Omega.{arith}
-use lib.Dec.{ltb}
 use lib.ListN.{length}
 use borrow.Author.Tests.{lt-ltb, le-ltb}
 use Rattle.error.specs.declared.Refusal.{Refusal}
@@ -14,17 +13,17 @@ use Rattle.ast.specs.Tree.{Node, Nodes, snoc}
 use Rattle.ast.specs.Appended.{Appends}
 use Rattle.parser.specs.declared.Parser.{Parser}
 use Rattle.parser.specs.State.{next, new, curIs}
-use Rattle.parser.specs.Parse.{Parsed, made, refused, Reads, _>>=_, parseNode, nodesUpTo, parse}
+use Rattle.parser.specs.Parse.{made, refused, Reads, _>>=_, parseNode, nodesUpTo, parse}
 use Rattle.parser.specs.Sound.{Sound}
 use Rattle.parser.specs.Built.{Built}
 use Rattle.parser.proofs.MoveLaws.{new-sound, new-made}
 use Rattle.parser.proofs.BodyLaws.{node-keeps, parse-kept}
 use Rattle.parse.specs.declared.ParsedNodes.{ParsedNodes}
-use Rattle.parse.specs.Body.{parseBody, StoresBody, BodyAnswers}
+use Rattle.parse.specs.Body.{parseBody, BodyAnswers}
 use Rattle.parse.proofs.RoomLaws.{Starts}
 use Rattle.parse.proofs.LoopLaws.{never-spent, Loops, loops-none, more-turns}
 
--- ---- one turn
+-- ---- one turn: at the end, where a node is refused, and where one is read
 
 module _ (node : Reads) (s : List ℕ) where
   turn-end : (k : ℕ) (q : Parser) (ns : Nodes) → Sound s q → length s < q .cur .start + k → curIs q Mark.EOF ≡ true → nodesUpTo node s k q ns ≡ made ns q
@@ -48,6 +47,7 @@ module _ (node : Reads) (s : List ℕ) where
 
 -- ---- the loop
 
+-- what holds on the way through the body s
 abbrev pub BodyLoop : ℕ → List ℕ → List ℕ → List ℕ → Parser → ℕ → ℕ → ℕ → Type 0
 BodyLoop depth s st₀ st q first last n = Loops s (λ k p ns. nodesUpTo (λ x. parseNode depth s x) s k p ns) (new s) st₀ st q first last n
 
@@ -83,6 +83,7 @@ module _ (depth : ℕ) (s : List ℕ) {st₀ st : List ℕ} {q : Parser} {first 
         fits = omega arith;
       }
 
+  -- a node that is refused ends it all
   pub body-refused : {r : Refusal} → curIs q Mark.EOF ≡ false → parseNode depth s q ≡ refused r → parse depth s ≡ refused r
   unfolding parse
   body-refused e h = g .is ∙ turn-refused (λ x. parseNode depth s x) s (g .fuel) q (g .ns) (g .spare .sound) (g .enough) e h
@@ -95,7 +96,7 @@ module _ (depth : ℕ) (s : List ℕ) {st₀ st : List ℕ} {q : Parser} {first 
       more-turns g (node-keeps depth s) e len b st₂ first′ r′ len₂ ap₂ step
       (turn-more (λ x. parseNode depth s x) s (g .fuel) q (g .ns) (g .spare .sound) (g .enough) e (b .is))
 
--- ---- the limits
+-- ---- the limits, in the order in which they are tested
 
 module _ (depth : ℕ) (s : List ℕ) (store : ℕ) where
   pub too-long : 4096 < length s → parseBody depth s store ≡ refused Refusal.TooLong

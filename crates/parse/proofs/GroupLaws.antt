@@ -49,6 +49,7 @@ module _ (node : Reads) (s : List ℕ) (end : Mark) where
 
 -- ---- the loop
 
+-- what holds on the way through a group
 abbrev pub GroupLoop : List ℕ → Reads → Mark → Parser → List ℕ → List ℕ → Parser → ℕ → ℕ → ℕ → Type 0
 GroupLoop s node end q₀ st₀ st q first last n = Loops s (λ k p ns. groupUpTo node s end k p ns) q₀ st₀ st q first last n
 

@@ -1,7 +1,7 @@
 -- The loop that reads nodes one behind the other: what holds on the way, whatever is made of the nodes at the end.
 -- Assumes nothing.
 use mathlib.Core.Path.{_≡_, refl, sym, _∙_, ap}
-use mathlib.Core.Bool.{true, false}
+use mathlib.Core.Bool.{false}
 use mathlib.Core.List.{List}
 use Prim.Native.Nat.{ℕ, zero, suc, _+_, _-_, _*_, _≤_, _<_}
 use native.Mathlib.Omega.{arith}
@@ -70,6 +70,7 @@ pub record Loops {A : Type 0} (s : List ℕ) (rest : Rest A) (q₀ : Parser) (st
   pub reach : last ≤ q .made
   pub kept : Stay st₀ st q₀
 
+-- before the first node
 pub loops-none : {A : Type 0} {s : List ℕ} {rest : Rest A} {q₀ : Parser} {st : List ℕ} {cap : ℕ} → Starts s st cap q₀ 0 → Loops s rest q₀ st st q₀ 0 0 0
 unfolding count
 loops-none {A} {s} {rest} {q₀} {st} {cap} h = record {

@@ -56,6 +56,14 @@ nul-operand : read (parse 256 (bytes "x_\0b"))
 unfolding text-opens token-opens lexer-opens ast-opens parse-opens read italic
 nul-operand = refl
 
+-- a script's operand is a whole node, and the degree of a root is read before its content
+orders : map (λ s. read (parse 256 (bytes s))) ("a_b^c" ∷ "\\sqrt[a]b" ∷ [])
+    ≡ nodes (two Two.Subscript (italic "a") (two Two.Superscript (italic "b") (italic "c")) then empty)
+    ∷ nodes (two Two.Root (italic "b") (italic "a") then empty)
+    ∷ []
+unfolding text-opens token-opens lexer-opens ast-opens parse-opens read italic
+orders = refl
+
 -- each call of parse_node and parse_single_node takes a level of depth, and a call with none left is refused
 depths : map (λ d. read (parse d (bytes "{a}"))) (3 ∷ 4 ∷ []) ≡ because Refusal.TooDeep ∷ nodes (italic "a" then empty) ∷ []
 unfolding text-opens token-opens lexer-opens ast-opens parse-opens read italic
