@@ -18,7 +18,9 @@ use Rattle.parse.proofs.LoopLaws.{count-few}
 use Rattle.print.specs.Shown.{NodesAt, Printable, Prints}
 use Rattle.latex2mathml.specs.declared.Answer.{Answer}
 use Rattle.latex2mathml.specs.Translate.{inMath, translate}
-use Rattle.latex2mathml.proofs.TranslateLaws.{Gives, body-too-large, body-fits, gives-nothing, gives-markup, math-small}
+use Rattle.latex2mathml.specs.Replace.{translateBody}
+use Rattle.latex2mathml.specs.PutBody.{RoomFor, PutThere}
+use Rattle.latex2mathml.proofs.TranslateLaws.{Gives, body-translated, body-too-large, body-fits, gives-nothing, gives-markup, math-small}
 
 module _ {s st : List ℕ} {first n hi : ℕ} (store : ℕ) (b : StoresBody s st (parseBody 256 s store) first n hi) where
   there : NodesAt s st hi first n (b .nodes)
@@ -93,3 +95,16 @@ module _ {s st : List ℕ} {first n hi : ℕ} (store : ℕ) (b : StoresBody s st
           let z = ap length same in
           let q : Puts true o o₂ 0 markup r₂ = rw same at (p .all (b .nodes) there (room true o₁ (λ t. omega arith))) in
           gives-markup (body-fits s display store (length o) h e (b .is) (omega arith)) l q
+
+  -- ---- put at a place, as a body of a document
+  pub able-there : (display : DisplayStyle) (write : Bool) (o : List ℕ) (at : ℕ) → RoomFor (translateBody store display s) write o at
+      → Printable (NodesAt s st hi first n) (λ ns. inMath display (printAll s ns)) write o at
+  able-there display write o at fits =
+      record { what = b .nodes; there = there; room = fits (inMath display (printAll s (b .nodes))) (body-translated s display store (b .is)) }
+
+  pub put-there : (display : DisplayStyle) {write : Bool} {o o′ : List ℕ} {at r : ℕ} → RoomFor (translateBody store display s) write o at
+      → Prints (NodesAt s st hi first n) (λ ns. inMath display (printAll s ns)) write o o′ at r → PutThere (translateBody store display s) write o o′ at r
+  put-there display fits p =
+      let m = inMath display (printAll s (b .nodes)) in
+      let is = body-translated s display store (b .is) in
+      record { markup = m; is = is; puts = p .all (b .nodes) there (fits m is) }

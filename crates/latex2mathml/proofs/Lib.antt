@@ -1,3 +1,5 @@
 pub mod MathLaws
 pub mod TranslateLaws
 pub mod BodyLaws
+pub mod PlaceLaws
+pub mod DollarLaws

@@ -8,7 +8,7 @@ use native.Mathlib.Omega.{arith}
 use native.Mathlib.Nat.{mul-le-mul, le-trans}
 use lib.Dec.{ltb}
 use lib.ListN.{length, drop, length-append}
-use borrow.Author.Tests.{lt-ltb, le-ltb}
+use borrow.Author.Tests.{ltb-false, lt-ltb, le-ltb}
 use Rattle.text.specs.Utf8.{wellFormed}
 use Rattle.text.specs.Text.{bytes}
 use Rattle.text.specs.Put.{Room, Puts}
@@ -29,6 +29,7 @@ use Rattle.print.specs.Shown.{NodesAt, Printable, Prints}
 use Rattle.latex2mathml.specs.declared.Answer.{Answer}
 use Rattle.latex2mathml.specs.Outcome.{Outcome, accepted, refused, _>>=_, refuse, bodyLimit, depthLimit, recordSize, bytesOf}
 use Rattle.latex2mathml.specs.Translate.{convertContent, inMath, latexToMathml, storeTooSmall, translate}
+use Rattle.latex2mathml.specs.Replace.{translateBody}
 use Rattle.latex2mathml.specs.Written.{answerOf, over}
 
 -- what the operation answers and writes where the translation gives o
@@ -75,6 +76,47 @@ module _ (s : List ℕ) (display : DisplayStyle) (store room : ℕ) where
     pub body-fits : {ns : Nodes} {p : Parser} → parseBody 256 s store ≡ Parsed.made ns p → length (inMath display (printAll s ns)) ≤ room → translate s display store room ≡ accepted (inMath display (printAll s ns))
     unfolding refuse _>>=_
     body-fits {ns} f g = body-is f ∙ rw (le-ltb room (length (inMath display (printAll s ns))) g)
+
+-- ---- a body of a document
+
+module _ (s : List ℕ) (display : DisplayStyle) (store : ℕ) where
+  -- a body that is parsed is not too long
+  pub body-short : {ns : Nodes} {p : Parser} → parseBody 256 s store ≡ Parsed.made ns p → length s ≤ 4096
+  unfolding parseBody
+  body-short f =
+      by-test (ltb 4096 (length s))
+      (λ t. let g = rw (parseBody, t) at f in never cc)
+      (λ t. ltb-false 4096 (length s) t)
+
+  pub body-refused : {r : Refusal} → parseBody 256 s store ≡ Parsed.refused r → translateBody store display s ≡ refused r
+  unfolding translateBody refuse _>>=_ bodyLimit storeTooSmall recordSize latexToMathml convertContent depthLimit parseBody
+  body-refused {r} f =
+      by-test (ltb 4096 (length s))
+      (λ t.
+      let g = rw (parseBody, t) at f in
+      let q : Refusal.TooLong ≡ r = cc in
+      rw (← q) (rw (translateBody, t)))
+      (λ t.
+      by-test (ltb (store / 24) (2 * length s))
+      (λ u.
+      let g = rw (parseBody, t, u) at f in
+      let q : Refusal.StoreTooSmall ≡ r = cc in
+      rw (← q) (rw (translateBody, t, storeTooSmall, u)))
+      (λ u.
+      let g = rw (parseBody, t, u) at f in
+      rw (translateBody, t, storeTooSmall, u, latexToMathml, convertContent, g)))
+
+  pub body-translated : {ns : Nodes} {p : Parser} → parseBody 256 s store ≡ Parsed.made ns p → translateBody store display s ≡ accepted (inMath display (printAll s ns))
+  unfolding translateBody refuse _>>=_ bodyLimit storeTooSmall recordSize latexToMathml convertContent depthLimit parseBody
+  body-translated f =
+      by-test (ltb 4096 (length s))
+      (λ t. let g = rw (parseBody, t) at f in never cc)
+      (λ t.
+      by-test (ltb (store / 24) (2 * length s))
+      (λ u. let g = rw (parseBody, t, u) at f in never cc)
+      (λ u.
+      let g = rw (parseBody, t, u) at f in
+      rw (translateBody, t, storeTooSmall, u, latexToMathml, convertContent, g)))
 
 -- a refusal leaves the output as it was
 pub gives-nothing : {want : Outcome (List ℕ)} {r : Refusal} (o : List ℕ) → want ≡ refused r → Gives want (Answer.Refused r) o o

@@ -37,7 +37,7 @@ fn put_opening(display: DisplayStyle, out: &mut [u8], at: usize, write: bool) ->
 }
 
 // Puts the markup of n nodes of the body from the index a on in its wrapper, or counts it.
-fn put_math(
+pub fn put_math(
     s: &[u8],
     display: DisplayStyle,
     store: &[u8],

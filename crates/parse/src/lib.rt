@@ -53,14 +53,14 @@ pub enum ParsedNodes {
 }
 
 // A node with the scripts behind it.
-pub fn parse_node(s: &[u8], store: &mut [u8], p: Parser, depth_left: usize) -> ParsedNode
+pub fn parse_node(s: &[u8], store: &mut [u8], p: Parser, depth: usize) -> ParsedNode
     requires { ⌜ Ready (now s) (now store) p ⌝ }
-    ensures { λ r. ⌜ Builds (now (store .entry)) (now (store .exit)) (p .made) p (parseNode «depth_left» (now (s .entry)) p) r ⌝ }
+    ensures { λ r. ⌜ Builds (now (store .entry)) (now (store .exit)) (p .made) p (parseNode depth (now (s .entry)) p) r ⌝ }
 {
-    if depth_left == 0 {
+    if depth == 0 {
         return ParsedNode::Refused(Refusal::TooDeep);
     }
-    match parse_single_node(s, store, p, depth_left - 1) {
+    match parse_single_node(s, store, p, depth - 1) {
         ParsedNode::Refused(r) => ParsedNode::Refused(r),
         ParsedNode::Node(left, q) => {
             let peek = q.peek;
@@ -70,7 +70,7 @@ pub fn parse_node(s: &[u8], store: &mut [u8], p: Parser, depth_left: usize) -> P
                 Script::Operand(over) => {
                     let mark = q.next_token(s);
                     let begin = mark.next_token(s);
-                    match parse_node(s, store, begin, depth_left - 1) {
+                    match parse_node(s, store, begin, depth - 1) {
                         ParsedNode::Refused(r) => ParsedNode::Refused(r),
                         ParsedNode::Node(right, r) => make_two(
                             store,
@@ -87,14 +87,14 @@ pub fn parse_node(s: &[u8], store: &mut [u8], p: Parser, depth_left: usize) -> P
 }
 
 // A node without the scripts behind it, but with a prime.
-fn parse_single_node(s: &[u8], store: &mut [u8], p: Parser, depth_left: usize) -> ParsedNode
+fn parse_single_node(s: &[u8], store: &mut [u8], p: Parser, depth: usize) -> ParsedNode
     requires { ⌜ Ready (now s) (now store) p ⌝ }
-    ensures { λ r. ⌜ Builds (now (store .entry)) (now (store .exit)) (p .made) p (parseSingleNode «depth_left» (now (s .entry)) p) r ⌝ }
+    ensures { λ r. ⌜ Builds (now (store .entry)) (now (store .exit)) (p .made) p (parseSingleNode depth (now (s .entry)) p) r ⌝ }
 {
-    if depth_left == 0 {
+    if depth == 0 {
         return ParsedNode::Refused(Refusal::TooDeep);
     }
-    match parse_bare(s, store, p, depth_left - 1) {
+    match parse_bare(s, store, p, depth - 1) {
         ParsedNode::Refused(r) => ParsedNode::Refused(r),
         ParsedNode::Node(n, q) => finish_prime(s, store, q, n),
     }
@@ -140,67 +140,51 @@ fn parse_text(s: &[u8], store: &mut [u8], p: Parser) -> ParsedNode
 }
 
 // A node by its first token.
-fn parse_bare(s: &[u8], store: &mut [u8], p: Parser, depth_left: usize) -> ParsedNode
+fn parse_bare(s: &[u8], store: &mut [u8], p: Parser, depth: usize) -> ParsedNode
     requires { ⌜ Ready (now s) (now store) p ⌝ }
-    ensures { λ r. ⌜ Builds (now (store .entry)) (now (store .exit)) (p .made) p (parseBare (λ q. parseNode «depth_left» (now (s .entry)) q) (λ q. parseSingleNode «depth_left» (now (s .entry)) q) (now (s .entry)) (p .cur .token) p) r ⌝ }
+    ensures { λ r. ⌜ Builds (now (store .entry)) (now (store .exit)) (p .made) p (parseBare (λ q. parseNode depth (now (s .entry)) q) (λ q. parseSingleNode depth (now (s .entry)) q) (now (s .entry)) (p .cur .token) p) r ⌝ }
 {
     let cur = p.cur;
     let token = cur.token;
     match token {
-        Token::Sqrt => parse_sqrt(s, store, p, depth_left),
-        Token::Frac => parse_two(s, store, p, depth_left, Pair::Frac),
-        Token::Binom(d) => parse_two(s, store, p, depth_left, Pair::Binom(d)),
-        Token::Over(c, acc) => parse_one(s, store, p, depth_left, One::OverOp(c, acc)),
-        Token::Under(c, acc) => parse_one(s, store, p, depth_left, One::UnderOp(c, acc)),
-        Token::Overset => parse_two(s, store, p, depth_left, Pair::Overset),
-        Token::Underset => parse_two(s, store, p, depth_left, Pair::Underset),
-        Token::Overbrace(x) => parse_brace(
-            s,
-            store,
-            p,
-            depth_left,
-            Two::Overset,
-            Mark::Circumflex,
-            x,
-        ),
-        Token::Underbrace(x) => parse_brace(
-            s,
-            store,
-            p,
-            depth_left,
-            Two::Underset,
-            Mark::Underscore,
-            x,
-        ),
-        Token::BigOp(c) => parse_limits(s, store, p, depth_left, Limits::BigOp(c)),
-        Token::Lim(t) => parse_lim(s, store, p, depth_left, t),
-        Token::Slashed => parse_slashed(s, store, p, depth_left),
-        Token::Style(v) => parse_style(s, store, p, depth_left, v),
-        Token::Integral(c) => parse_limits(s, store, p, depth_left, Limits::Integral(c)),
-        Token::LBrace => parse_group(s, store, p, depth_left, Mark::RBrace),
-        Token::Left => parse_left(s, store, p, depth_left),
-        Token::Middle => parse_middle(s, store, p, depth_left),
+        Token::Sqrt => parse_sqrt(s, store, p, depth),
+        Token::Frac => parse_two(s, store, p, depth, Pair::Frac),
+        Token::Binom(d) => parse_two(s, store, p, depth, Pair::Binom(d)),
+        Token::Over(c, acc) => parse_one(s, store, p, depth, One::OverOp(c, acc)),
+        Token::Under(c, acc) => parse_one(s, store, p, depth, One::UnderOp(c, acc)),
+        Token::Overset => parse_two(s, store, p, depth, Pair::Overset),
+        Token::Underset => parse_two(s, store, p, depth, Pair::Underset),
+        Token::Overbrace(x) => parse_brace(s, store, p, depth, Two::Overset, Mark::Circumflex, x),
+        Token::Underbrace(x) => parse_brace(s, store, p, depth, Two::Underset, Mark::Underscore, x),
+        Token::BigOp(c) => parse_limits(s, store, p, depth, Limits::BigOp(c)),
+        Token::Lim(t) => parse_lim(s, store, p, depth, t),
+        Token::Slashed => parse_slashed(s, store, p, depth),
+        Token::Style(v) => parse_style(s, store, p, depth, v),
+        Token::Integral(c) => parse_limits(s, store, p, depth, Limits::Integral(c)),
+        Token::LBrace => parse_group(s, store, p, depth, Mark::RBrace),
+        Token::Left => parse_left(s, store, p, depth),
+        Token::Middle => parse_middle(s, store, p, depth),
         Token::Big(size) => parse_big(s, store, p, size),
-        Token::Begin => parse_begin(s, store, p, depth_left),
+        Token::Begin => parse_begin(s, store, p, depth),
         Token::OperatorName => parse_operator_name(s, store, p),
         Token::Text => parse_text(s, store, p),
         _ => make_leaf(store, p, leaf_of(token)),
     }
 }
 
-fn parse_sqrt(s: &[u8], store: &mut [u8], p: Parser, depth_left: usize) -> ParsedNode
+fn parse_sqrt(s: &[u8], store: &mut [u8], p: Parser, depth: usize) -> ParsedNode
     requires { ⌜ Ready (now s) (now store) p × (p .cur .start + 3 ≤ p .cur .end) ⌝ }
-    ensures { λ r. ⌜ Builds (now (store .entry)) (now (store .exit)) (p .made) p (parseSqrt (λ q. parseNode «depth_left» (now (s .entry)) q) (now (s .entry)) p) r ⌝ }
+    ensures { λ r. ⌜ Builds (now (store .entry)) (now (store .exit)) (p .made) p (parseSqrt (λ q. parseNode depth (now (s .entry)) q) (now (s .entry)) p) r ⌝ }
 {
     let begin = p.next_token(s);
     if begin.cur_token_is(Mark::LBracket) {
-        match parse_group(s, store, begin, depth_left, Mark::RBracket) {
+        match parse_group(s, store, begin, depth, Mark::RBracket) {
             ParsedNode::Refused(r) => {
                 return ParsedNode::Refused(r);
             }
             ParsedNode::Node(degree, q) => {
                 let after = q.next_token(s);
-                match parse_node(s, store, after, depth_left) {
+                match parse_node(s, store, after, depth) {
                     ParsedNode::Refused(r) => {
                         return ParsedNode::Refused(r);
                     }
@@ -211,35 +195,35 @@ fn parse_sqrt(s: &[u8], store: &mut [u8], p: Parser, depth_left: usize) -> Parse
             }
         }
     }
-    match parse_node(s, store, begin, depth_left) {
+    match parse_node(s, store, begin, depth) {
         ParsedNode::Refused(r) => ParsedNode::Refused(r),
         ParsedNode::Node(content, q) => make_one(store, q, One::Sqrt, content),
     }
 }
 
 // A command with one operand.
-fn parse_one(s: &[u8], store: &mut [u8], p: Parser, depth_left: usize, k: One) -> ParsedNode
+fn parse_one(s: &[u8], store: &mut [u8], p: Parser, depth: usize, k: One) -> ParsedNode
     requires { ⌜ Ready (now s) (now store) p × (p .cur .start + 3 ≤ p .cur .end) ⌝ }
-    ensures { λ r. ⌜ Builds (now (store .entry)) (now (store .exit)) (p .made) p (parseOne (λ q. parseNode «depth_left» (now (s .entry)) q) (now (s .entry)) k p) r ⌝ }
+    ensures { λ r. ⌜ Builds (now (store .entry)) (now (store .exit)) (p .made) p (parseOne (λ q. parseNode depth (now (s .entry)) q) (now (s .entry)) k p) r ⌝ }
 {
     let begin = p.next_token(s);
-    match parse_node(s, store, begin, depth_left) {
+    match parse_node(s, store, begin, depth) {
         ParsedNode::Refused(r) => ParsedNode::Refused(r),
         ParsedNode::Node(a, q) => make_one(store, q, k, a),
     }
 }
 
 // A command with two operands.
-fn parse_two(s: &[u8], store: &mut [u8], p: Parser, depth_left: usize, k: Pair) -> ParsedNode
+fn parse_two(s: &[u8], store: &mut [u8], p: Parser, depth: usize, k: Pair) -> ParsedNode
     requires { ⌜ Ready (now s) (now store) p × (p .cur .start + 3 ≤ p .cur .end) ⌝ }
-    ensures { λ r. ⌜ Builds (now (store .entry)) (now (store .exit)) (p .made) p (parseTwo (λ q. parseNode «depth_left» (now (s .entry)) q) (now (s .entry)) k p) r ⌝ }
+    ensures { λ r. ⌜ Builds (now (store .entry)) (now (store .exit)) (p .made) p (parseTwo (λ q. parseNode depth (now (s .entry)) q) (now (s .entry)) k p) r ⌝ }
 {
     let begin = p.next_token(s);
-    match parse_node(s, store, begin, depth_left) {
+    match parse_node(s, store, begin, depth) {
         ParsedNode::Refused(r) => ParsedNode::Refused(r),
         ParsedNode::Node(a, q) => {
             let after = q.next_token(s);
-            match parse_node(s, store, after, depth_left) {
+            match parse_node(s, store, after, depth) {
                 ParsedNode::Refused(r) => ParsedNode::Refused(r),
                 ParsedNode::Node(b, r) => make_pair(store, r, k, a, b),
             }
@@ -252,16 +236,16 @@ fn parse_brace(
     s: &[u8],
     store: &mut [u8],
     p: Parser,
-    depth_left: usize,
+    depth: usize,
     k: Two,
     mark: Mark,
     x: u32,
 ) -> ParsedNode
     requires { ⌜ Ready (now s) (now store) p × (p .cur .start + 3 ≤ p .cur .end) × (1 ≤ markNumber mark) ⌝ }
-    ensures { λ r. ⌜ Builds (now (store .entry)) (now (store .exit)) (p .made) p (parseBrace (λ q. parseSingleNode «depth_left» (now (s .entry)) q) (now (s .entry)) k mark x p) r ⌝ }
+    ensures { λ r. ⌜ Builds (now (store .entry)) (now (store .exit)) (p .made) p (parseBrace (λ q. parseSingleNode depth (now (s .entry)) q) (now (s .entry)) k mark x p) r ⌝ }
 {
     let begin = p.next_token(s);
-    match parse_single_node(s, store, begin, depth_left) {
+    match parse_single_node(s, store, begin, depth) {
         ParsedNode::Refused(r) => ParsedNode::Refused(r),
         ParsedNode::Node(target, q) => {
             if !q.peek_token_is(mark) {
@@ -269,7 +253,7 @@ fn parse_brace(
             }
             let after = q.next_token(s);
             let operand = after.next_token(s);
-            match parse_single_node(s, store, operand, depth_left) {
+            match parse_single_node(s, store, operand, depth) {
                 ParsedNode::Refused(r) => ParsedNode::Refused(r),
                 ParsedNode::Node(expl, r) => make_explained(store, r, k, x, target, expl),
             }
@@ -278,9 +262,9 @@ fn parse_brace(
 }
 
 // An operator with what stands below and above it, in either order.
-fn parse_limits(s: &[u8], store: &mut [u8], p: Parser, depth_left: usize, k: Limits) -> ParsedNode
+fn parse_limits(s: &[u8], store: &mut [u8], p: Parser, depth: usize, k: Limits) -> ParsedNode
     requires { ⌜ Ready (now s) (now store) p × (p .cur .start + 3 ≤ p .cur .end) ⌝ }
-    ensures { λ r. ⌜ Builds (now (store .entry)) (now (store .exit)) (p .made) p (parseLimits (λ q. parseSingleNode «depth_left» (now (s .entry)) q) (now (s .entry)) k p) r ⌝ }
+    ensures { λ r. ⌜ Builds (now (store .entry)) (now (store .exit)) (p .made) p (parseLimits (λ q. parseSingleNode depth (now (s .entry)) q) (now (s .entry)) k p) r ⌝ }
 {
     let peek = p.peek;
     let token = peek.token;
@@ -289,7 +273,7 @@ fn parse_limits(s: &[u8], store: &mut [u8], p: Parser, depth_left: usize, k: Lim
         Script::Operand(over) => {
             let mark = p.next_token(s);
             let begin = mark.next_token(s);
-            match parse_single_node(s, store, begin, depth_left) {
+            match parse_single_node(s, store, begin, depth) {
                 ParsedNode::Refused(r) => ParsedNode::Refused(r),
                 ParsedNode::Node(x, q) => {
                     if !q.peek_token_is(other_limit(over)) {
@@ -297,7 +281,7 @@ fn parse_limits(s: &[u8], store: &mut [u8], p: Parser, depth_left: usize, k: Lim
                     }
                     let after = q.next_token(s);
                     let operand = after.next_token(s);
-                    match parse_single_node(s, store, operand, depth_left) {
+                    match parse_single_node(s, store, operand, depth) {
                         ParsedNode::Refused(r) => ParsedNode::Refused(r),
                         ParsedNode::Node(y, r) => make_limits(store, r, k, over, x, y),
                     }
@@ -308,16 +292,16 @@ fn parse_limits(s: &[u8], store: &mut [u8], p: Parser, depth_left: usize, k: Lim
 }
 
 // A limit with what stands below it.
-fn parse_lim(s: &[u8], store: &mut [u8], p: Parser, depth_left: usize, t: u32) -> ParsedNode
+fn parse_lim(s: &[u8], store: &mut [u8], p: Parser, depth: usize, t: u32) -> ParsedNode
     requires { ⌜ Ready (now s) (now store) p × (p .cur .start + 3 ≤ p .cur .end) ⌝ }
-    ensures { λ r. ⌜ Builds (now (store .entry)) (now (store .exit)) (p .made) p (parseLim (λ q. parseSingleNode «depth_left» (now (s .entry)) q) (now (s .entry)) t p) r ⌝ }
+    ensures { λ r. ⌜ Builds (now (store .entry)) (now (store .exit)) (p .made) p (parseLim (λ q. parseSingleNode depth (now (s .entry)) q) (now (s .entry)) t p) r ⌝ }
 {
     if !p.peek_token_is(Mark::Underscore) {
         return make_leaf(store, p, Leaf::Function(t));
     }
     let mark = p.next_token(s);
     let begin = mark.next_token(s);
-    match parse_single_node(s, store, begin, depth_left) {
+    match parse_single_node(s, store, begin, depth) {
         ParsedNode::Refused(r) => ParsedNode::Refused(r),
         ParsedNode::Node(under, q) => make_leaf_first(
             store,
@@ -330,13 +314,13 @@ fn parse_lim(s: &[u8], store: &mut [u8], p: Parser, depth_left: usize, t: u32) -
 }
 
 // A slashed node, whose braces are passed unseen.
-fn parse_slashed(s: &[u8], store: &mut [u8], p: Parser, depth_left: usize) -> ParsedNode
+fn parse_slashed(s: &[u8], store: &mut [u8], p: Parser, depth: usize) -> ParsedNode
     requires { ⌜ Ready (now s) (now store) p × (p .cur .start + 3 ≤ p .cur .end) ⌝ }
-    ensures { λ r. ⌜ Builds (now (store .entry)) (now (store .exit)) (p .made) p (parseSlashed (λ q. parseNode «depth_left» (now (s .entry)) q) (now (s .entry)) p) r ⌝ }
+    ensures { λ r. ⌜ Builds (now (store .entry)) (now (store .exit)) (p .made) p (parseSlashed (λ q. parseNode depth (now (s .entry)) q) (now (s .entry)) p) r ⌝ }
 {
     let brace = p.next_token(s);
     let begin = brace.next_token(s);
-    match parse_node(s, store, begin, depth_left) {
+    match parse_node(s, store, begin, depth) {
         ParsedNode::Refused(r) => ParsedNode::Refused(r),
         ParsedNode::Node(a, q) => {
             let after = q.next_token(s);
@@ -346,12 +330,12 @@ fn parse_slashed(s: &[u8], store: &mut [u8], p: Parser, depth_left: usize) -> Pa
 }
 
 // A node whose letters get a variant.
-fn parse_style(s: &[u8], store: &mut [u8], p: Parser, depth_left: usize, v: Variant) -> ParsedNode
+fn parse_style(s: &[u8], store: &mut [u8], p: Parser, depth: usize, v: Variant) -> ParsedNode
     requires { ⌜ Ready (now s) (now store) p × (p .cur .start + 3 ≤ p .cur .end) ⌝ }
-    ensures { λ r. ⌜ Builds (now (store .entry)) (now (store .exit)) (p .made) p (parseStyle (λ q. parseNode «depth_left» (now (s .entry)) q) (now (s .entry)) v p) r ⌝ }
+    ensures { λ r. ⌜ Builds (now (store .entry)) (now (store .exit)) (p .made) p (parseStyle (λ q. parseNode depth (now (s .entry)) q) (now (s .entry)) v p) r ⌝ }
 {
     let begin = p.next_token(s);
-    match parse_node(s, store, begin, depth_left) {
+    match parse_node(s, store, begin, depth) {
         ParsedNode::Refused(r) => ParsedNode::Refused(r),
         ParsedNode::Node(i, q) => {
             set_variant(store, i, v, q.made);
@@ -361,9 +345,9 @@ fn parse_style(s: &[u8], store: &mut [u8], p: Parser, depth_left: usize, v: Vari
 }
 
 // A group between two fences.
-fn parse_left(s: &[u8], store: &mut [u8], p: Parser, depth_left: usize) -> ParsedNode
+fn parse_left(s: &[u8], store: &mut [u8], p: Parser, depth: usize) -> ParsedNode
     requires { ⌜ Ready (now s) (now store) p × (p .cur .start + 3 ≤ p .cur .end) ⌝ }
-    ensures { λ r. ⌜ Builds (now (store .entry)) (now (store .exit)) (p .made) p (parseLeft (λ q. parseNode «depth_left» (now (s .entry)) q) (now (s .entry)) p) r ⌝ }
+    ensures { λ r. ⌜ Builds (now (store .entry)) (now (store .exit)) (p .made) p (parseLeft (λ q. parseNode depth (now (s .entry)) q) (now (s .entry)) p) r ⌝ }
 {
     let begin = p.next_token(s);
     let cur = begin.cur;
@@ -371,7 +355,7 @@ fn parse_left(s: &[u8], store: &mut [u8], p: Parser, depth_left: usize) -> Parse
     match fence_of(token) {
         Fence::Missing => ParsedNode::Refused(Refusal::MissingParensethis),
         Fence::Fixed(first) => {
-            match parse_group(s, store, begin, depth_left, Mark::Right) {
+            match parse_group(s, store, begin, depth, Mark::Right) {
                 ParsedNode::Refused(r) => ParsedNode::Refused(r),
                 ParsedNode::Node(content, q) => {
                     let after = q.next_token(s);
@@ -383,28 +367,28 @@ fn parse_left(s: &[u8], store: &mut [u8], p: Parser, depth_left: usize) -> Parse
 }
 
 // A stretched operator.
-fn parse_middle(s: &[u8], store: &mut [u8], p: Parser, depth_left: usize) -> ParsedNode
+fn parse_middle(s: &[u8], store: &mut [u8], p: Parser, depth: usize) -> ParsedNode
     requires { ⌜ Ready (now s) (now store) p × (p .cur .start + 3 ≤ p .cur .end) ⌝ }
-    ensures { λ r. ⌜ Builds (now (store .entry)) (now (store .exit)) (p .made) p (parseMiddle (λ q. parseSingleNode «depth_left» (now (s .entry)) q) (now (s .entry)) p) r ⌝ }
+    ensures { λ r. ⌜ Builds (now (store .entry)) (now (store .exit)) (p .made) p (parseMiddle (λ q. parseSingleNode depth (now (s .entry)) q) (now (s .entry)) p) r ⌝ }
 {
     let begin = p.next_token(s);
-    match parse_single_node(s, store, begin, depth_left) {
+    match parse_single_node(s, store, begin, depth) {
         ParsedNode::Refused(r) => ParsedNode::Refused(r),
         ParsedNode::Node(i, q) => make_stretched(store, q, i),
     }
 }
 
 // An environment, which is looked up after its content is read; the name behind `\end` is passed unseen.
-fn parse_begin(s: &[u8], store: &mut [u8], p: Parser, depth_left: usize) -> ParsedNode
+fn parse_begin(s: &[u8], store: &mut [u8], p: Parser, depth: usize) -> ParsedNode
     requires { ⌜ Ready (now s) (now store) p × (p .cur .start + 3 ≤ p .cur .end) ⌝ }
-    ensures { λ r. ⌜ Builds (now (store .entry)) (now (store .exit)) (p .made) p (parseBegin (λ q. parseNode «depth_left» (now (s .entry)) q) (now (s .entry)) p) r ⌝ }
+    ensures { λ r. ⌜ Builds (now (store .entry)) (now (store .exit)) (p .made) p (parseBegin (λ q. parseNode depth (now (s .entry)) q) (now (s .entry)) p) r ⌝ }
 {
     let begin = p.next_token(s);
     let name = begin.parse_text(s);
     let a = name.a;
     let e = name.e;
     let after = name.after;
-    match parse_group(s, store, after, depth_left, Mark::End) {
+    match parse_group(s, store, after, depth, Mark::End) {
         ParsedNode::Refused(r) => ParsedNode::Refused(r),
         ParsedNode::Node(content, q) => {
             let behind = q.next_token(s);
@@ -417,9 +401,9 @@ fn parse_begin(s: &[u8], store: &mut [u8], p: Parser, depth_left: usize) -> Pars
 }
 
 // The nodes up to a token, as one node.
-fn parse_group(s: &[u8], store: &mut [u8], p: Parser, depth_left: usize, end: Mark) -> ParsedNode
+fn parse_group(s: &[u8], store: &mut [u8], p: Parser, depth: usize, end: Mark) -> ParsedNode
     requires { ⌜ Ready (now s) (now store) p × (1 ≤ markNumber end) ⌝ }
-    ensures { λ r. ⌜ Builds (now (store .entry)) (now (store .exit)) (p .made) p (parseGroup (λ q. parseNode «depth_left» (now (s .entry)) q) (now (s .entry)) end p) r ⌝ }
+    ensures { λ r. ⌜ Builds (now (store .entry)) (now (store .exit)) (p .made) p (parseGroup (λ q. parseNode depth (now (s .entry)) q) (now (s .entry)) end p) r ⌝ }
 {
     let mut q = p.next_token(s);
     let mut first: usize = 0;
@@ -432,7 +416,7 @@ fn parse_group(s: &[u8], store: &mut [u8], p: Parser, depth_left: usize, end: Ma
         if q.cur_token_is(end) {
             return make_row(store, q, first, count);
         }
-        match parse_node(s, store, q, depth_left) {
+        match parse_node(s, store, q, depth) {
             ParsedNode::Refused(r) => {
                 return ParsedNode::Refused(r);
             }

@@ -544,7 +544,7 @@ parse-bare-same-length t c = search needs
 parse-bare-returns : (t : ℕ) → parse-bare-lts.Need-returns (parse-bare-calls t) (parse-bare-at t) parse-bare.Post
 unfolding parseBare
 parse-bare-returns t c =
-    bare-as (λ q. parseNode ((c .before .before .before .before .before .before .before .before .before .args) .depth-left) ((c .before .before .before .before .before .before .before .before .before .args) .s .now) q) (λ q. parseSingleNode ((c .before .before .before .before .before .before .before .before .before .args) .depth-left) ((c .before .before .before .before .before .before .before .before .before .args) .s .now) q) ((c .before .before .before .before .before .before .before .before .before .args) .s .now) _ _ _ ((c .before .before .before .before .before .before .before .before .before .args) .p) _ ((c .before .before .parse-sqrt) .result) ((c .before .before .before .before .enum-told) .given .1) ((c .before .before .parse-sqrt) .ensures)
+    bare-as (λ q. parseNode ((c .before .before .before .before .before .before .before .before .before .args) .depth) ((c .before .before .before .before .before .before .before .before .before .args) .s .now) q) (λ q. parseSingleNode ((c .before .before .before .before .before .before .before .before .before .args) .depth) ((c .before .before .before .before .before .before .before .before .before .args) .s .now) q) ((c .before .before .before .before .before .before .before .before .before .args) .s .now) _ _ _ ((c .before .before .before .before .before .before .before .before .before .args) .p) _ ((c .before .before .parse-sqrt) .result) ((c .before .before .before .before .enum-told) .given .1) ((c .before .before .parse-sqrt) .ensures)
 
 parse-bare-same-length-2 : (t : ℕ) → parse-bare-lts.Need-same-length-2 (parse-bare-calls t) (parse-bare-at t) parse-bare.Post
 parse-bare-same-length-2 t c = search needs
@@ -552,7 +552,7 @@ parse-bare-same-length-2 t c = search needs
 parse-bare-returns-2 : (t : ℕ) → parse-bare-lts.Need-returns-2 (parse-bare-calls t) (parse-bare-at t) parse-bare.Post
 unfolding parseBare
 parse-bare-returns-2 t c =
-    bare-as (λ q. parseNode ((c .before .before .before .before .before .before .before .before .before .args) .depth-left) ((c .before .before .before .before .before .before .before .before .before .args) .s .now) q) (λ q. parseSingleNode ((c .before .before .before .before .before .before .before .before .before .args) .depth-left) ((c .before .before .before .before .before .before .before .before .before .args) .s .now) q) ((c .before .before .before .before .before .before .before .before .before .args) .s .now) _ _ _ ((c .before .before .before .before .before .before .before .before .before .args) .p) _ ((c .before .before .parse-two) .result) ((c .before .before .before .before .enum-told2) .given .1) ((c .before .before .parse-two) .ensures)
+    bare-as (λ q. parseNode ((c .before .before .before .before .before .before .before .before .before .args) .depth) ((c .before .before .before .before .before .before .before .before .before .args) .s .now) q) (λ q. parseSingleNode ((c .before .before .before .before .before .before .before .before .before .args) .depth) ((c .before .before .before .before .before .before .before .before .before .args) .s .now) q) ((c .before .before .before .before .before .before .before .before .before .args) .s .now) _ _ _ ((c .before .before .before .before .before .before .before .before .before .args) .p) _ ((c .before .before .parse-two) .result) ((c .before .before .before .before .enum-told2) .given .1) ((c .before .before .parse-two) .ensures)
 
 parse-bare-same-length-3 : (t : ℕ) → parse-bare-lts.Need-same-length-3 (parse-bare-calls t) (parse-bare-at t) parse-bare.Post
 parse-bare-same-length-3 t c = search needs
@@ -560,7 +560,7 @@ parse-bare-same-length-3 t c = search needs
 parse-bare-returns-3 : (t : ℕ) → parse-bare-lts.Need-returns-3 (parse-bare-calls t) (parse-bare-at t) parse-bare.Post
 unfolding parseBare
 parse-bare-returns-3 t c =
-    bare-as (λ q. parseNode ((c .before .before .before .before .before .before .before .before .before .before .args) .depth-left) ((c .before .before .before .before .before .before .before .before .before .before .args) .s .now) q) (λ q. parseSingleNode ((c .before .before .before .before .before .before .before .before .before .before .args) .depth-left) ((c .before .before .before .before .before .before .before .before .before .before .args) .s .now) q) ((c .before .before .before .before .before .before .before .before .before .before .args) .s .now) _ _ _ ((c .before .before .before .before .before .before .before .before .before .before .args) .p) _ ((c .before .before .parse-two2) .result) ((c .before .before .before .before .before .token) .given .1) ((c .before .before .parse-two2) .ensures)
+    bare-as (λ q. parseNode ((c .before .before .before .before .before .before .before .before .before .before .args) .depth) ((c .before .before .before .before .before .before .before .before .before .before .args) .s .now) q) (λ q. parseSingleNode ((c .before .before .before .before .before .before .before .before .before .before .args) .depth) ((c .before .before .before .before .before .before .before .before .before .before .args) .s .now) q) ((c .before .before .before .before .before .before .before .before .before .before .args) .s .now) _ _ _ ((c .before .before .before .before .before .before .before .before .before .before .args) .p) _ ((c .before .before .parse-two2) .result) ((c .before .before .before .before .before .token) .given .1) ((c .before .before .parse-two2) .ensures)
 
 parse-bare-same-length-4 : (t : ℕ) → parse-bare-lts.Need-same-length-4 (parse-bare-calls t) (parse-bare-at t) parse-bare.Post
 parse-bare-same-length-4 t c = search needs
@@ -568,7 +568,7 @@ parse-bare-same-length-4 t c = search needs
 parse-bare-returns-4 : (t : ℕ) → parse-bare-lts.Need-returns-4 (parse-bare-calls t) (parse-bare-at t) parse-bare.Post
 unfolding parseBare
 parse-bare-returns-4 t c =
-    bare-as (λ q. parseNode ((c .before .before .before .before .before .before .before .before .before .before .args) .depth-left) ((c .before .before .before .before .before .before .before .before .before .before .args) .s .now) q) (λ q. parseSingleNode ((c .before .before .before .before .before .before .before .before .before .before .args) .depth-left) ((c .before .before .before .before .before .before .before .before .before .before .args) .s .now) q) ((c .before .before .before .before .before .before .before .before .before .before .args) .s .now) _ _ _ ((c .before .before .before .before .before .before .before .before .before .before .args) .p) _ ((c .before .before .parse-one) .result) ((c .before .before .before .before .before .token2) .given .1) ((c .before .before .parse-one) .ensures)
+    bare-as (λ q. parseNode ((c .before .before .before .before .before .before .before .before .before .before .args) .depth) ((c .before .before .before .before .before .before .before .before .before .before .args) .s .now) q) (λ q. parseSingleNode ((c .before .before .before .before .before .before .before .before .before .before .args) .depth) ((c .before .before .before .before .before .before .before .before .before .before .args) .s .now) q) ((c .before .before .before .before .before .before .before .before .before .before .args) .s .now) _ _ _ ((c .before .before .before .before .before .before .before .before .before .before .args) .p) _ ((c .before .before .parse-one) .result) ((c .before .before .before .before .before .token2) .given .1) ((c .before .before .parse-one) .ensures)
 
 parse-bare-same-length-5 : (t : ℕ) → parse-bare-lts.Need-same-length-5 (parse-bare-calls t) (parse-bare-at t) parse-bare.Post
 parse-bare-same-length-5 t c = search needs
@@ -576,7 +576,7 @@ parse-bare-same-length-5 t c = search needs
 parse-bare-returns-5 : (t : ℕ) → parse-bare-lts.Need-returns-5 (parse-bare-calls t) (parse-bare-at t) parse-bare.Post
 unfolding parseBare
 parse-bare-returns-5 t c =
-    bare-as (λ q. parseNode ((c .before .before .before .before .before .before .before .before .before .before .args) .depth-left) ((c .before .before .before .before .before .before .before .before .before .before .args) .s .now) q) (λ q. parseSingleNode ((c .before .before .before .before .before .before .before .before .before .before .args) .depth-left) ((c .before .before .before .before .before .before .before .before .before .before .args) .s .now) q) ((c .before .before .before .before .before .before .before .before .before .before .args) .s .now) _ _ _ ((c .before .before .before .before .before .before .before .before .before .before .args) .p) _ ((c .before .before .parse-one2) .result) ((c .before .before .before .before .before .token3) .given .1) ((c .before .before .parse-one2) .ensures)
+    bare-as (λ q. parseNode ((c .before .before .before .before .before .before .before .before .before .before .args) .depth) ((c .before .before .before .before .before .before .before .before .before .before .args) .s .now) q) (λ q. parseSingleNode ((c .before .before .before .before .before .before .before .before .before .before .args) .depth) ((c .before .before .before .before .before .before .before .before .before .before .args) .s .now) q) ((c .before .before .before .before .before .before .before .before .before .before .args) .s .now) _ _ _ ((c .before .before .before .before .before .before .before .before .before .before .args) .p) _ ((c .before .before .parse-one2) .result) ((c .before .before .before .before .before .token3) .given .1) ((c .before .before .parse-one2) .ensures)
 
 parse-bare-same-length-6 : (t : ℕ) → parse-bare-lts.Need-same-length-6 (parse-bare-calls t) (parse-bare-at t) parse-bare.Post
 parse-bare-same-length-6 t c = search needs
@@ -584,7 +584,7 @@ parse-bare-same-length-6 t c = search needs
 parse-bare-returns-6 : (t : ℕ) → parse-bare-lts.Need-returns-6 (parse-bare-calls t) (parse-bare-at t) parse-bare.Post
 unfolding parseBare
 parse-bare-returns-6 t c =
-    bare-as (λ q. parseNode ((c .before .before .before .before .before .before .before .before .before .args) .depth-left) ((c .before .before .before .before .before .before .before .before .before .args) .s .now) q) (λ q. parseSingleNode ((c .before .before .before .before .before .before .before .before .before .args) .depth-left) ((c .before .before .before .before .before .before .before .before .before .args) .s .now) q) ((c .before .before .before .before .before .before .before .before .before .args) .s .now) _ _ _ ((c .before .before .before .before .before .before .before .before .before .args) .p) _ ((c .before .before .parse-two3) .result) ((c .before .before .before .before .enum-told3) .given .1) ((c .before .before .parse-two3) .ensures)
+    bare-as (λ q. parseNode ((c .before .before .before .before .before .before .before .before .before .args) .depth) ((c .before .before .before .before .before .before .before .before .before .args) .s .now) q) (λ q. parseSingleNode ((c .before .before .before .before .before .before .before .before .before .args) .depth) ((c .before .before .before .before .before .before .before .before .before .args) .s .now) q) ((c .before .before .before .before .before .before .before .before .before .args) .s .now) _ _ _ ((c .before .before .before .before .before .before .before .before .before .args) .p) _ ((c .before .before .parse-two3) .result) ((c .before .before .before .before .enum-told3) .given .1) ((c .before .before .parse-two3) .ensures)
 
 parse-bare-same-length-7 : (t : ℕ) → parse-bare-lts.Need-same-length-7 (parse-bare-calls t) (parse-bare-at t) parse-bare.Post
 parse-bare-same-length-7 t c = search needs
@@ -592,7 +592,7 @@ parse-bare-same-length-7 t c = search needs
 parse-bare-returns-7 : (t : ℕ) → parse-bare-lts.Need-returns-7 (parse-bare-calls t) (parse-bare-at t) parse-bare.Post
 unfolding parseBare
 parse-bare-returns-7 t c =
-    bare-as (λ q. parseNode ((c .before .before .before .before .before .before .before .before .before .args) .depth-left) ((c .before .before .before .before .before .before .before .before .before .args) .s .now) q) (λ q. parseSingleNode ((c .before .before .before .before .before .before .before .before .before .args) .depth-left) ((c .before .before .before .before .before .before .before .before .before .args) .s .now) q) ((c .before .before .before .before .before .before .before .before .before .args) .s .now) _ _ _ ((c .before .before .before .before .before .before .before .before .before .args) .p) _ ((c .before .before .parse-two4) .result) ((c .before .before .before .before .enum-told4) .given .1) ((c .before .before .parse-two4) .ensures)
+    bare-as (λ q. parseNode ((c .before .before .before .before .before .before .before .before .before .args) .depth) ((c .before .before .before .before .before .before .before .before .before .args) .s .now) q) (λ q. parseSingleNode ((c .before .before .before .before .before .before .before .before .before .args) .depth) ((c .before .before .before .before .before .before .before .before .before .args) .s .now) q) ((c .before .before .before .before .before .before .before .before .before .args) .s .now) _ _ _ ((c .before .before .before .before .before .before .before .before .before .args) .p) _ ((c .before .before .parse-two4) .result) ((c .before .before .before .before .enum-told4) .given .1) ((c .before .before .parse-two4) .ensures)
 
 parse-bare-same-length-8 : (t : ℕ) → parse-bare-lts.Need-same-length-8 (parse-bare-calls t) (parse-bare-at t) parse-bare.Post
 parse-bare-same-length-8 t c = search needs
@@ -600,7 +600,7 @@ parse-bare-same-length-8 t c = search needs
 parse-bare-returns-8 : (t : ℕ) → parse-bare-lts.Need-returns-8 (parse-bare-calls t) (parse-bare-at t) parse-bare.Post
 unfolding parseBare
 parse-bare-returns-8 t c =
-    bare-as (λ q. parseNode ((c .before .before .before .before .before .before .before .before .before .before .args) .depth-left) ((c .before .before .before .before .before .before .before .before .before .before .args) .s .now) q) (λ q. parseSingleNode ((c .before .before .before .before .before .before .before .before .before .before .args) .depth-left) ((c .before .before .before .before .before .before .before .before .before .before .args) .s .now) q) ((c .before .before .before .before .before .before .before .before .before .before .args) .s .now) _ _ _ ((c .before .before .before .before .before .before .before .before .before .before .args) .p) _ ((c .before .before .parse-brace) .result) ((c .before .before .before .before .before .token4) .given .1) ((c .before .before .parse-brace) .ensures)
+    bare-as (λ q. parseNode ((c .before .before .before .before .before .before .before .before .before .before .args) .depth) ((c .before .before .before .before .before .before .before .before .before .before .args) .s .now) q) (λ q. parseSingleNode ((c .before .before .before .before .before .before .before .before .before .before .args) .depth) ((c .before .before .before .before .before .before .before .before .before .before .args) .s .now) q) ((c .before .before .before .before .before .before .before .before .before .before .args) .s .now) _ _ _ ((c .before .before .before .before .before .before .before .before .before .before .args) .p) _ ((c .before .before .parse-brace) .result) ((c .before .before .before .before .before .token4) .given .1) ((c .before .before .parse-brace) .ensures)
 
 parse-bare-same-length-9 : (t : ℕ) → parse-bare-lts.Need-same-length-9 (parse-bare-calls t) (parse-bare-at t) parse-bare.Post
 parse-bare-same-length-9 t c = search needs
@@ -608,7 +608,7 @@ parse-bare-same-length-9 t c = search needs
 parse-bare-returns-9 : (t : ℕ) → parse-bare-lts.Need-returns-9 (parse-bare-calls t) (parse-bare-at t) parse-bare.Post
 unfolding parseBare
 parse-bare-returns-9 t c =
-    bare-as (λ q. parseNode ((c .before .before .before .before .before .before .before .before .before .before .args) .depth-left) ((c .before .before .before .before .before .before .before .before .before .before .args) .s .now) q) (λ q. parseSingleNode ((c .before .before .before .before .before .before .before .before .before .before .args) .depth-left) ((c .before .before .before .before .before .before .before .before .before .before .args) .s .now) q) ((c .before .before .before .before .before .before .before .before .before .before .args) .s .now) _ _ _ ((c .before .before .before .before .before .before .before .before .before .before .args) .p) _ ((c .before .before .parse-brace2) .result) ((c .before .before .before .before .before .token5) .given .1) ((c .before .before .parse-brace2) .ensures)
+    bare-as (λ q. parseNode ((c .before .before .before .before .before .before .before .before .before .before .args) .depth) ((c .before .before .before .before .before .before .before .before .before .before .args) .s .now) q) (λ q. parseSingleNode ((c .before .before .before .before .before .before .before .before .before .before .args) .depth) ((c .before .before .before .before .before .before .before .before .before .before .args) .s .now) q) ((c .before .before .before .before .before .before .before .before .before .before .args) .s .now) _ _ _ ((c .before .before .before .before .before .before .before .before .before .before .args) .p) _ ((c .before .before .parse-brace2) .result) ((c .before .before .before .before .before .token5) .given .1) ((c .before .before .parse-brace2) .ensures)
 
 parse-bare-same-length-10 : (t : ℕ) → parse-bare-lts.Need-same-length-10 (parse-bare-calls t) (parse-bare-at t) parse-bare.Post
 parse-bare-same-length-10 t c = search needs
@@ -616,7 +616,7 @@ parse-bare-same-length-10 t c = search needs
 parse-bare-returns-10 : (t : ℕ) → parse-bare-lts.Need-returns-10 (parse-bare-calls t) (parse-bare-at t) parse-bare.Post
 unfolding parseBare
 parse-bare-returns-10 t c =
-    bare-as (λ q. parseNode ((c .before .before .before .before .before .before .before .before .before .before .args) .depth-left) ((c .before .before .before .before .before .before .before .before .before .before .args) .s .now) q) (λ q. parseSingleNode ((c .before .before .before .before .before .before .before .before .before .before .args) .depth-left) ((c .before .before .before .before .before .before .before .before .before .before .args) .s .now) q) ((c .before .before .before .before .before .before .before .before .before .before .args) .s .now) _ _ _ ((c .before .before .before .before .before .before .before .before .before .before .args) .p) _ ((c .before .before .parse-limits) .result) ((c .before .before .before .before .before .token6) .given .1) ((c .before .before .parse-limits) .ensures)
+    bare-as (λ q. parseNode ((c .before .before .before .before .before .before .before .before .before .before .args) .depth) ((c .before .before .before .before .before .before .before .before .before .before .args) .s .now) q) (λ q. parseSingleNode ((c .before .before .before .before .before .before .before .before .before .before .args) .depth) ((c .before .before .before .before .before .before .before .before .before .before .args) .s .now) q) ((c .before .before .before .before .before .before .before .before .before .before .args) .s .now) _ _ _ ((c .before .before .before .before .before .before .before .before .before .before .args) .p) _ ((c .before .before .parse-limits) .result) ((c .before .before .before .before .before .token6) .given .1) ((c .before .before .parse-limits) .ensures)
 
 parse-bare-same-length-11 : (t : ℕ) → parse-bare-lts.Need-same-length-11 (parse-bare-calls t) (parse-bare-at t) parse-bare.Post
 parse-bare-same-length-11 t c = search needs
@@ -624,7 +624,7 @@ parse-bare-same-length-11 t c = search needs
 parse-bare-returns-11 : (t : ℕ) → parse-bare-lts.Need-returns-11 (parse-bare-calls t) (parse-bare-at t) parse-bare.Post
 unfolding parseBare
 parse-bare-returns-11 t c =
-    bare-as (λ q. parseNode ((c .before .before .before .before .before .before .before .before .before .before .args) .depth-left) ((c .before .before .before .before .before .before .before .before .before .before .args) .s .now) q) (λ q. parseSingleNode ((c .before .before .before .before .before .before .before .before .before .before .args) .depth-left) ((c .before .before .before .before .before .before .before .before .before .before .args) .s .now) q) ((c .before .before .before .before .before .before .before .before .before .before .args) .s .now) _ _ _ ((c .before .before .before .before .before .before .before .before .before .before .args) .p) _ ((c .before .before .parse-lim) .result) ((c .before .before .before .before .before .token7) .given .1) ((c .before .before .parse-lim) .ensures)
+    bare-as (λ q. parseNode ((c .before .before .before .before .before .before .before .before .before .before .args) .depth) ((c .before .before .before .before .before .before .before .before .before .before .args) .s .now) q) (λ q. parseSingleNode ((c .before .before .before .before .before .before .before .before .before .before .args) .depth) ((c .before .before .before .before .before .before .before .before .before .before .args) .s .now) q) ((c .before .before .before .before .before .before .before .before .before .before .args) .s .now) _ _ _ ((c .before .before .before .before .before .before .before .before .before .before .args) .p) _ ((c .before .before .parse-lim) .result) ((c .before .before .before .before .before .token7) .given .1) ((c .before .before .parse-lim) .ensures)
 
 parse-bare-same-length-12 : (t : ℕ) → parse-bare-lts.Need-same-length-12 (parse-bare-calls t) (parse-bare-at t) parse-bare.Post
 parse-bare-same-length-12 t c = search needs
@@ -632,7 +632,7 @@ parse-bare-same-length-12 t c = search needs
 parse-bare-returns-12 : (t : ℕ) → parse-bare-lts.Need-returns-12 (parse-bare-calls t) (parse-bare-at t) parse-bare.Post
 unfolding parseBare
 parse-bare-returns-12 t c =
-    bare-as (λ q. parseNode ((c .before .before .before .before .before .before .before .before .before .args) .depth-left) ((c .before .before .before .before .before .before .before .before .before .args) .s .now) q) (λ q. parseSingleNode ((c .before .before .before .before .before .before .before .before .before .args) .depth-left) ((c .before .before .before .before .before .before .before .before .before .args) .s .now) q) ((c .before .before .before .before .before .before .before .before .before .args) .s .now) _ _ _ ((c .before .before .before .before .before .before .before .before .before .args) .p) _ ((c .before .before .parse-slashed) .result) ((c .before .before .before .before .enum-told5) .given .1) ((c .before .before .parse-slashed) .ensures)
+    bare-as (λ q. parseNode ((c .before .before .before .before .before .before .before .before .before .args) .depth) ((c .before .before .before .before .before .before .before .before .before .args) .s .now) q) (λ q. parseSingleNode ((c .before .before .before .before .before .before .before .before .before .args) .depth) ((c .before .before .before .before .before .before .before .before .before .args) .s .now) q) ((c .before .before .before .before .before .before .before .before .before .args) .s .now) _ _ _ ((c .before .before .before .before .before .before .before .before .before .args) .p) _ ((c .before .before .parse-slashed) .result) ((c .before .before .before .before .enum-told5) .given .1) ((c .before .before .parse-slashed) .ensures)
 
 parse-bare-same-length-13 : (t : ℕ) → parse-bare-lts.Need-same-length-13 (parse-bare-calls t) (parse-bare-at t) parse-bare.Post
 parse-bare-same-length-13 t c = search needs
@@ -640,7 +640,7 @@ parse-bare-same-length-13 t c = search needs
 parse-bare-returns-13 : (t : ℕ) → parse-bare-lts.Need-returns-13 (parse-bare-calls t) (parse-bare-at t) parse-bare.Post
 unfolding parseBare
 parse-bare-returns-13 t c =
-    bare-as (λ q. parseNode ((c .before .before .before .before .before .before .before .before .before .before .args) .depth-left) ((c .before .before .before .before .before .before .before .before .before .before .args) .s .now) q) (λ q. parseSingleNode ((c .before .before .before .before .before .before .before .before .before .before .args) .depth-left) ((c .before .before .before .before .before .before .before .before .before .before .args) .s .now) q) ((c .before .before .before .before .before .before .before .before .before .before .args) .s .now) _ _ _ ((c .before .before .before .before .before .before .before .before .before .before .args) .p) _ ((c .before .before .parse-style) .result) ((c .before .before .before .before .before .token8) .given .1) ((c .before .before .parse-style) .ensures)
+    bare-as (λ q. parseNode ((c .before .before .before .before .before .before .before .before .before .before .args) .depth) ((c .before .before .before .before .before .before .before .before .before .before .args) .s .now) q) (λ q. parseSingleNode ((c .before .before .before .before .before .before .before .before .before .before .args) .depth) ((c .before .before .before .before .before .before .before .before .before .before .args) .s .now) q) ((c .before .before .before .before .before .before .before .before .before .before .args) .s .now) _ _ _ ((c .before .before .before .before .before .before .before .before .before .before .args) .p) _ ((c .before .before .parse-style) .result) ((c .before .before .before .before .before .token8) .given .1) ((c .before .before .parse-style) .ensures)
 
 parse-bare-same-length-14 : (t : ℕ) → parse-bare-lts.Need-same-length-14 (parse-bare-calls t) (parse-bare-at t) parse-bare.Post
 parse-bare-same-length-14 t c = search needs
@@ -648,7 +648,7 @@ parse-bare-same-length-14 t c = search needs
 parse-bare-returns-14 : (t : ℕ) → parse-bare-lts.Need-returns-14 (parse-bare-calls t) (parse-bare-at t) parse-bare.Post
 unfolding parseBare
 parse-bare-returns-14 t c =
-    bare-as (λ q. parseNode ((c .before .before .before .before .before .before .before .before .before .before .args) .depth-left) ((c .before .before .before .before .before .before .before .before .before .before .args) .s .now) q) (λ q. parseSingleNode ((c .before .before .before .before .before .before .before .before .before .before .args) .depth-left) ((c .before .before .before .before .before .before .before .before .before .before .args) .s .now) q) ((c .before .before .before .before .before .before .before .before .before .before .args) .s .now) _ _ _ ((c .before .before .before .before .before .before .before .before .before .before .args) .p) _ ((c .before .before .parse-limits2) .result) ((c .before .before .before .before .before .token9) .given .1) ((c .before .before .parse-limits2) .ensures)
+    bare-as (λ q. parseNode ((c .before .before .before .before .before .before .before .before .before .before .args) .depth) ((c .before .before .before .before .before .before .before .before .before .before .args) .s .now) q) (λ q. parseSingleNode ((c .before .before .before .before .before .before .before .before .before .before .args) .depth) ((c .before .before .before .before .before .before .before .before .before .before .args) .s .now) q) ((c .before .before .before .before .before .before .before .before .before .before .args) .s .now) _ _ _ ((c .before .before .before .before .before .before .before .before .before .before .args) .p) _ ((c .before .before .parse-limits2) .result) ((c .before .before .before .before .before .token9) .given .1) ((c .before .before .parse-limits2) .ensures)
 
 parse-bare-same-length-15 : (t : ℕ) → parse-bare-lts.Need-same-length-15 (parse-bare-calls t) (parse-bare-at t) parse-bare.Post
 parse-bare-same-length-15 t c = search needs
@@ -656,7 +656,7 @@ parse-bare-same-length-15 t c = search needs
 parse-bare-returns-15 : (t : ℕ) → parse-bare-lts.Need-returns-15 (parse-bare-calls t) (parse-bare-at t) parse-bare.Post
 unfolding parseBare
 parse-bare-returns-15 t c =
-    bare-as (λ q. parseNode ((c .before .before .before .before .before .before .before .before .before .args) .depth-left) ((c .before .before .before .before .before .before .before .before .before .args) .s .now) q) (λ q. parseSingleNode ((c .before .before .before .before .before .before .before .before .before .args) .depth-left) ((c .before .before .before .before .before .before .before .before .before .args) .s .now) q) ((c .before .before .before .before .before .before .before .before .before .args) .s .now) _ _ _ ((c .before .before .before .before .before .before .before .before .before .args) .p) _ ((c .before .before .parse-group) .result) ((c .before .before .before .before .enum-told6) .given .1) ((c .before .before .parse-group) .ensures)
+    bare-as (λ q. parseNode ((c .before .before .before .before .before .before .before .before .before .args) .depth) ((c .before .before .before .before .before .before .before .before .before .args) .s .now) q) (λ q. parseSingleNode ((c .before .before .before .before .before .before .before .before .before .args) .depth) ((c .before .before .before .before .before .before .before .before .before .args) .s .now) q) ((c .before .before .before .before .before .before .before .before .before .args) .s .now) _ _ _ ((c .before .before .before .before .before .before .before .before .before .args) .p) _ ((c .before .before .parse-group) .result) ((c .before .before .before .before .enum-told6) .given .1) ((c .before .before .parse-group) .ensures)
 
 parse-bare-same-length-16 : (t : ℕ) → parse-bare-lts.Need-same-length-16 (parse-bare-calls t) (parse-bare-at t) parse-bare.Post
 parse-bare-same-length-16 t c = search needs
@@ -664,7 +664,7 @@ parse-bare-same-length-16 t c = search needs
 parse-bare-returns-16 : (t : ℕ) → parse-bare-lts.Need-returns-16 (parse-bare-calls t) (parse-bare-at t) parse-bare.Post
 unfolding parseBare
 parse-bare-returns-16 t c =
-    bare-as (λ q. parseNode ((c .before .before .before .before .before .before .before .before .before .args) .depth-left) ((c .before .before .before .before .before .before .before .before .before .args) .s .now) q) (λ q. parseSingleNode ((c .before .before .before .before .before .before .before .before .before .args) .depth-left) ((c .before .before .before .before .before .before .before .before .before .args) .s .now) q) ((c .before .before .before .before .before .before .before .before .before .args) .s .now) _ _ _ ((c .before .before .before .before .before .before .before .before .before .args) .p) _ ((c .before .before .parse-left) .result) ((c .before .before .before .before .enum-told7) .given .1) ((c .before .before .parse-left) .ensures)
+    bare-as (λ q. parseNode ((c .before .before .before .before .before .before .before .before .before .args) .depth) ((c .before .before .before .before .before .before .before .before .before .args) .s .now) q) (λ q. parseSingleNode ((c .before .before .before .before .before .before .before .before .before .args) .depth) ((c .before .before .before .before .before .before .before .before .before .args) .s .now) q) ((c .before .before .before .before .before .before .before .before .before .args) .s .now) _ _ _ ((c .before .before .before .before .before .before .before .before .before .args) .p) _ ((c .before .before .parse-left) .result) ((c .before .before .before .before .enum-told7) .given .1) ((c .before .before .parse-left) .ensures)
 
 parse-bare-same-length-17 : (t : ℕ) → parse-bare-lts.Need-same-length-17 (parse-bare-calls t) (parse-bare-at t) parse-bare.Post
 parse-bare-same-length-17 t c = search needs
@@ -672,7 +672,7 @@ parse-bare-same-length-17 t c = search needs
 parse-bare-returns-17 : (t : ℕ) → parse-bare-lts.Need-returns-17 (parse-bare-calls t) (parse-bare-at t) parse-bare.Post
 unfolding parseBare
 parse-bare-returns-17 t c =
-    bare-as (λ q. parseNode ((c .before .before .before .before .before .before .before .before .before .args) .depth-left) ((c .before .before .before .before .before .before .before .before .before .args) .s .now) q) (λ q. parseSingleNode ((c .before .before .before .before .before .before .before .before .before .args) .depth-left) ((c .before .before .before .before .before .before .before .before .before .args) .s .now) q) ((c .before .before .before .before .before .before .before .before .before .args) .s .now) _ _ _ ((c .before .before .before .before .before .before .before .before .before .args) .p) _ ((c .before .before .parse-middle) .result) ((c .before .before .before .before .enum-told8) .given .1) ((c .before .before .parse-middle) .ensures)
+    bare-as (λ q. parseNode ((c .before .before .before .before .before .before .before .before .before .args) .depth) ((c .before .before .before .before .before .before .before .before .before .args) .s .now) q) (λ q. parseSingleNode ((c .before .before .before .before .before .before .before .before .before .args) .depth) ((c .before .before .before .before .before .before .before .before .before .args) .s .now) q) ((c .before .before .before .before .before .before .before .before .before .args) .s .now) _ _ _ ((c .before .before .before .before .before .before .before .before .before .args) .p) _ ((c .before .before .parse-middle) .result) ((c .before .before .before .before .enum-told8) .given .1) ((c .before .before .parse-middle) .ensures)
 
 parse-bare-same-length-18 : (t : ℕ) → parse-bare-lts.Need-same-length-18 (parse-bare-calls t) (parse-bare-at t) parse-bare.Post
 parse-bare-same-length-18 t c = search needs
@@ -680,7 +680,7 @@ parse-bare-same-length-18 t c = search needs
 parse-bare-returns-18 : (t : ℕ) → parse-bare-lts.Need-returns-18 (parse-bare-calls t) (parse-bare-at t) parse-bare.Post
 unfolding parseBare
 parse-bare-returns-18 t c =
-    bare-as (λ q. parseNode ((c .before .before .before .before .before .before .before .before .before .before .args) .depth-left) ((c .before .before .before .before .before .before .before .before .before .before .args) .s .now) q) (λ q. parseSingleNode ((c .before .before .before .before .before .before .before .before .before .before .args) .depth-left) ((c .before .before .before .before .before .before .before .before .before .before .args) .s .now) q) ((c .before .before .before .before .before .before .before .before .before .before .args) .s .now) _ _ _ ((c .before .before .before .before .before .before .before .before .before .before .args) .p) _ ((c .before .before .parse-big) .result) ((c .before .before .before .before .before .token10) .given .1) ((c .before .before .parse-big) .ensures)
+    bare-as (λ q. parseNode ((c .before .before .before .before .before .before .before .before .before .before .args) .depth) ((c .before .before .before .before .before .before .before .before .before .before .args) .s .now) q) (λ q. parseSingleNode ((c .before .before .before .before .before .before .before .before .before .before .args) .depth) ((c .before .before .before .before .before .before .before .before .before .before .args) .s .now) q) ((c .before .before .before .before .before .before .before .before .before .before .args) .s .now) _ _ _ ((c .before .before .before .before .before .before .before .before .before .before .args) .p) _ ((c .before .before .parse-big) .result) ((c .before .before .before .before .before .token10) .given .1) ((c .before .before .parse-big) .ensures)
 
 parse-bare-same-length-19 : (t : ℕ) → parse-bare-lts.Need-same-length-19 (parse-bare-calls t) (parse-bare-at t) parse-bare.Post
 parse-bare-same-length-19 t c = search needs
@@ -688,7 +688,7 @@ parse-bare-same-length-19 t c = search needs
 parse-bare-returns-19 : (t : ℕ) → parse-bare-lts.Need-returns-19 (parse-bare-calls t) (parse-bare-at t) parse-bare.Post
 unfolding parseBare
 parse-bare-returns-19 t c =
-    bare-as (λ q. parseNode ((c .before .before .before .before .before .before .before .before .before .args) .depth-left) ((c .before .before .before .before .before .before .before .before .before .args) .s .now) q) (λ q. parseSingleNode ((c .before .before .before .before .before .before .before .before .before .args) .depth-left) ((c .before .before .before .before .before .before .before .before .before .args) .s .now) q) ((c .before .before .before .before .before .before .before .before .before .args) .s .now) _ _ _ ((c .before .before .before .before .before .before .before .before .before .args) .p) _ ((c .before .before .parse-begin) .result) ((c .before .before .before .before .enum-told9) .given .1) ((c .before .before .parse-begin) .ensures)
+    bare-as (λ q. parseNode ((c .before .before .before .before .before .before .before .before .before .args) .depth) ((c .before .before .before .before .before .before .before .before .before .args) .s .now) q) (λ q. parseSingleNode ((c .before .before .before .before .before .before .before .before .before .args) .depth) ((c .before .before .before .before .before .before .before .before .before .args) .s .now) q) ((c .before .before .before .before .before .before .before .before .before .args) .s .now) _ _ _ ((c .before .before .before .before .before .before .before .before .before .args) .p) _ ((c .before .before .parse-begin) .result) ((c .before .before .before .before .enum-told9) .given .1) ((c .before .before .parse-begin) .ensures)
 
 parse-bare-same-length-20 : (t : ℕ) → parse-bare-lts.Need-same-length-20 (parse-bare-calls t) (parse-bare-at t) parse-bare.Post
 parse-bare-same-length-20 t c = search needs
@@ -696,7 +696,7 @@ parse-bare-same-length-20 t c = search needs
 parse-bare-returns-20 : (t : ℕ) → parse-bare-lts.Need-returns-20 (parse-bare-calls t) (parse-bare-at t) parse-bare.Post
 unfolding parseBare
 parse-bare-returns-20 t c =
-    bare-as (λ q. parseNode ((c .before .before .before .before .before .before .before .before .before .args) .depth-left) ((c .before .before .before .before .before .before .before .before .before .args) .s .now) q) (λ q. parseSingleNode ((c .before .before .before .before .before .before .before .before .before .args) .depth-left) ((c .before .before .before .before .before .before .before .before .before .args) .s .now) q) ((c .before .before .before .before .before .before .before .before .before .args) .s .now) _ _ _ ((c .before .before .before .before .before .before .before .before .before .args) .p) _ ((c .before .before .parse-operator-name) .result) ((c .before .before .before .before .enum-told10) .given .1) ((c .before .before .parse-operator-name) .ensures)
+    bare-as (λ q. parseNode ((c .before .before .before .before .before .before .before .before .before .args) .depth) ((c .before .before .before .before .before .before .before .before .before .args) .s .now) q) (λ q. parseSingleNode ((c .before .before .before .before .before .before .before .before .before .args) .depth) ((c .before .before .before .before .before .before .before .before .before .args) .s .now) q) ((c .before .before .before .before .before .before .before .before .before .args) .s .now) _ _ _ ((c .before .before .before .before .before .before .before .before .before .args) .p) _ ((c .before .before .parse-operator-name) .result) ((c .before .before .before .before .enum-told10) .given .1) ((c .before .before .parse-operator-name) .ensures)
 
 parse-bare-same-length-21 : (t : ℕ) → parse-bare-lts.Need-same-length-21 (parse-bare-calls t) (parse-bare-at t) parse-bare.Post
 parse-bare-same-length-21 t c = search needs
@@ -704,14 +704,14 @@ parse-bare-same-length-21 t c = search needs
 parse-bare-returns-21 : (t : ℕ) → parse-bare-lts.Need-returns-21 (parse-bare-calls t) (parse-bare-at t) parse-bare.Post
 unfolding parseBare
 parse-bare-returns-21 t c =
-    bare-as (λ q. parseNode ((c .before .before .before .before .before .before .before .before .before .args) .depth-left) ((c .before .before .before .before .before .before .before .before .before .args) .s .now) q) (λ q. parseSingleNode ((c .before .before .before .before .before .before .before .before .before .args) .depth-left) ((c .before .before .before .before .before .before .before .before .before .args) .s .now) q) ((c .before .before .before .before .before .before .before .before .before .args) .s .now) _ _ _ ((c .before .before .before .before .before .before .before .before .before .args) .p) _ ((c .before .before .parse-text) .result) ((c .before .before .before .before .enum-told11) .given .1) ((c .before .before .parse-text) .ensures)
+    bare-as (λ q. parseNode ((c .before .before .before .before .before .before .before .before .before .args) .depth) ((c .before .before .before .before .before .before .before .before .before .args) .s .now) q) (λ q. parseSingleNode ((c .before .before .before .before .before .before .before .before .before .args) .depth) ((c .before .before .before .before .before .before .before .before .before .args) .s .now) q) ((c .before .before .before .before .before .before .before .before .before .args) .s .now) _ _ _ ((c .before .before .before .before .before .before .before .before .before .args) .p) _ ((c .before .before .parse-text) .result) ((c .before .before .before .before .enum-told11) .given .1) ((c .before .before .parse-text) .ensures)
 
 parse-bare-same-length-22 : (t : ℕ) → parse-bare-lts.Need-same-length-22 (parse-bare-calls t) (parse-bare-at t) parse-bare.Post
 parse-bare-same-length-22 t c = search needs
 
 parse-bare-returns-22 : (t : ℕ) → parse-bare-lts.Need-returns-22 (parse-bare-calls t) (parse-bare-at t) parse-bare.Post
 parse-bare-returns-22 t c =
-    after-none _ _ ((c .before .before .before .before .before .before .before .before .before .args) .p) ((c .before .before .before .before .before .before .before .before .before .args) .p) _ _ ((c .before .before .make-leaf) .result) refl (rw ((c .before .before .before .leaf-of) .ensures) at ((c .before .before .make-leaf) .ensures)) (bare-leaf (λ q. parseNode ((c .before .before .before .before .before .before .before .before .before .args) .depth-left) ((c .before .before .before .before .before .before .before .before .before .args) .s .now) q) (λ q. parseSingleNode ((c .before .before .before .before .before .before .before .before .before .args) .depth-left) ((c .before .before .before .before .before .before .before .before .before .args) .s .now) q) ((c .before .before .before .before .before .before .before .before .before .args) .s .now) (((c .before .before .before .before .before .before .before .before .before .args) .p) .cur .token) ((c .before .before .before .before .before .before .before .before .before .args) .p) ((c .before .before .before .before .before .match) .keys22))
+    after-none _ _ ((c .before .before .before .before .before .before .before .before .before .args) .p) ((c .before .before .before .before .before .before .before .before .before .args) .p) _ _ ((c .before .before .make-leaf) .result) refl (rw ((c .before .before .before .leaf-of) .ensures) at ((c .before .before .make-leaf) .ensures)) (bare-leaf (λ q. parseNode ((c .before .before .before .before .before .before .before .before .before .args) .depth) ((c .before .before .before .before .before .before .before .before .before .args) .s .now) q) (λ q. parseSingleNode ((c .before .before .before .before .before .before .before .before .before .args) .depth) ((c .before .before .before .before .before .before .before .before .before .args) .s .now) q) ((c .before .before .before .before .before .before .before .before .before .args) .s .now) (((c .before .before .before .before .before .before .before .before .before .args) .p) .cur .token) ((c .before .before .before .before .before .before .before .before .before .args) .p) ((c .before .before .before .before .before .match) .keys22))
 
 parse-begin-next-token-requires : (t : ℕ) → parse-begin-lts.Need-next-token-requires (parse-begin-calls t) (parse-begin-at t) parse-begin.Post
 parse-begin-next-token-requires t c κs = (c .before .before .pre) .1 .0 .sound .peek .inside
@@ -736,13 +736,13 @@ parse-begin-next-token-requires-2 : (t : ℕ) → parse-begin-lts.Need-next-toke
 unfolding markNumber
 parse-begin-next-token-requires-2 t c κs =
     let g = rw ((c .before .content) .given .1) at ((c .before .before .before .before .before .parse-group) .ensures) in
-    (group-ends ((c .before .before .before .before .before .parse-group) .kept .1 .0) Mark.End (starts-text (ends-next (ready-ends ((c .before .before .before .before .before .before .before .before .before .before .before .before .pre) .1 .0) ((c .before .before .before .before .before .before .before .before .before .before .before .before .pre) .1 .1)) ((c .before .before .before .before .before .before .before .before .before .next-token) .ensures)) ((c .before .before .before .before .before .before .before .before .parse-text) .ensures)) (node-keeps ((c .before .before .before .before .before .before .before .before .before .before .before .before .args) .depth-left) ((c .before .before .before .before .before .before .before .before .before .before .before .before .args) .s .now)) (lit≤ tt) g) .sound .peek .inside
+    (group-ends ((c .before .before .before .before .before .parse-group) .kept .1 .0) Mark.End (starts-text (ends-next (ready-ends ((c .before .before .before .before .before .before .before .before .before .before .before .before .pre) .1 .0) ((c .before .before .before .before .before .before .before .before .before .before .before .before .pre) .1 .1)) ((c .before .before .before .before .before .before .before .before .before .next-token) .ensures)) ((c .before .before .before .before .before .before .before .before .parse-text) .ensures)) (node-keeps ((c .before .before .before .before .before .before .before .before .before .before .before .before .args) .depth) ((c .before .before .before .before .before .before .before .before .before .before .before .before .args) .s .now)) (lit≤ tt) g) .sound .peek .inside
 
 parse-begin-parse-text-requires-2 : (t : ℕ) → parse-begin-lts.Need-parse-text-requires-2 (parse-begin-calls t) (parse-begin-at t) parse-begin.Post
 unfolding markNumber
 parse-begin-parse-text-requires-2 t c κs =
     let g = rw ((c .before .before .content) .given .1) at ((c .before .before .before .before .before .before .parse-group) .ensures) in
-    (ends-next (group-ends ((c .before .before .before .before .before .before .parse-group) .kept .1 .0) Mark.End (starts-text (ends-next (ready-ends ((c .before .before .before .before .before .before .before .before .before .before .before .before .before .pre) .1 .0) ((c .before .before .before .before .before .before .before .before .before .before .before .before .before .pre) .1 .1)) ((c .before .before .before .before .before .before .before .before .before .before .next-token) .ensures)) ((c .before .before .before .before .before .before .before .before .before .parse-text) .ensures)) (node-keeps ((c .before .before .before .before .before .before .before .before .before .before .before .before .before .args) .depth-left) ((c .before .before .before .before .before .before .before .before .before .before .before .before .before .args) .s .now)) (lit≤ tt) g) ((c .next-token2) .ensures)) .sound
+    (ends-next (group-ends ((c .before .before .before .before .before .before .parse-group) .kept .1 .0) Mark.End (starts-text (ends-next (ready-ends ((c .before .before .before .before .before .before .before .before .before .before .before .before .before .pre) .1 .0) ((c .before .before .before .before .before .before .before .before .before .before .before .before .before .pre) .1 .1)) ((c .before .before .before .before .before .before .before .before .before .before .next-token) .ensures)) ((c .before .before .before .before .before .before .before .before .before .parse-text) .ensures)) (node-keeps ((c .before .before .before .before .before .before .before .before .before .before .before .before .before .args) .depth) ((c .before .before .before .before .before .before .before .before .before .before .before .before .before .args) .s .now)) (lit≤ tt) g) ((c .next-token2) .ensures)) .sound
 
 parse-begin-sub-environment-of : (t : ℕ) → parse-begin-lts.Need-sub-environment-of (parse-begin-calls t) (parse-begin-at t) parse-begin.Post
 parse-begin-sub-environment-of t c =
@@ -775,7 +775,7 @@ parse-begin-make-environment-requires t c κs =
     let b = g .below in
     let n = (next-made ((c .before .before .before .before .before .before .before .before .before .before .before .before .before .before .before .before .before .before .args) .s .now) _ ((c .before .before .before .before .before .next-token2) .ensures)) in
     let k = (text-made ((c .before .before .before .before .before .before .before .before .before .before .before .before .before .before .before .before .before .before .args) .s .now) _ ((c .before .before .before .before .parse-text2) .ensures)) in
-    (starts-free 2 (starts-text (ends-next (group-ends ((c .before .before .before .before .before .before .before .before .before .before .before .parse-group) .kept .1 .0) Mark.End (starts-text (ends-next (ready-ends ((c .before .before .before .before .before .before .before .before .before .before .before .before .before .before .before .before .before .before .pre) .1 .0) ((c .before .before .before .before .before .before .before .before .before .before .before .before .before .before .before .before .before .before .pre) .1 .1)) ((c .before .before .before .before .before .before .before .before .before .before .before .before .before .before .before .next-token) .ensures)) ((c .before .before .before .before .before .before .before .before .before .before .before .before .before .before .parse-text) .ensures)) (node-keeps ((c .before .before .before .before .before .before .before .before .before .before .before .before .before .before .before .before .before .before .args) .depth-left) ((c .before .before .before .before .before .before .before .before .before .before .before .before .before .before .before .before .before .before .args) .s .now)) (lit≤ tt) g) ((c .before .before .before .before .before .next-token2) .ensures)) ((c .before .before .before .before .parse-text2) .ensures)) (omega arith), omega arith)
+    (starts-free 2 (starts-text (ends-next (group-ends ((c .before .before .before .before .before .before .before .before .before .before .before .parse-group) .kept .1 .0) Mark.End (starts-text (ends-next (ready-ends ((c .before .before .before .before .before .before .before .before .before .before .before .before .before .before .before .before .before .before .pre) .1 .0) ((c .before .before .before .before .before .before .before .before .before .before .before .before .before .before .before .before .before .before .pre) .1 .1)) ((c .before .before .before .before .before .before .before .before .before .before .before .before .before .before .before .next-token) .ensures)) ((c .before .before .before .before .before .before .before .before .before .before .before .before .before .before .parse-text) .ensures)) (node-keeps ((c .before .before .before .before .before .before .before .before .before .before .before .before .before .before .before .before .before .before .args) .depth) ((c .before .before .before .before .before .before .before .before .before .before .before .before .before .before .before .before .before .before .args) .s .now)) (lit≤ tt) g) ((c .before .before .before .before .before .next-token2) .ensures)) ((c .before .before .before .before .parse-text2) .ensures)) (omega arith), omega arith)
 
 parse-begin-same-length : (t : ℕ) → parse-begin-lts.Need-same-length (parse-begin-calls t) (parse-begin-at t) parse-begin.Post
 parse-begin-same-length t c = search needs
@@ -783,7 +783,7 @@ parse-begin-same-length t c = search needs
 parse-begin-returns : (t : ℕ) → parse-begin-lts.Need-returns (parse-begin-calls t) (parse-begin-at t) parse-begin.Post
 parse-begin-returns t c =
     let g = rw ((c .before .r) .given .1) at ((c .before .before .before .before .before .parse-group) .ensures) in
-    begin-no (λ q. parseNode ((c .before .before .before .before .before .before .before .before .before .before .before .before .args) .depth-left) ((c .before .before .before .before .before .before .before .before .before .before .before .before .args) .s .now) q) ((c .before .before .before .before .before .before .before .before .before .before .before .before .args) .s .now) ((c .before .before .before .before .before .before .before .before .before .before .before .before .args) .p) ((c .before .before .before .before .before .before .before .before .before .next-token) .ensures) ((c .before .before .before .before .before .before .before .before .parse-text) .ensures) g
+    begin-no (λ q. parseNode ((c .before .before .before .before .before .before .before .before .before .before .before .before .args) .depth) ((c .before .before .before .before .before .before .before .before .before .before .before .before .args) .s .now) q) ((c .before .before .before .before .before .before .before .before .before .before .before .before .args) .s .now) ((c .before .before .before .before .before .before .before .before .before .before .before .before .args) .p) ((c .before .before .before .before .before .before .before .before .before .next-token) .ensures) ((c .before .before .before .before .before .before .before .before .parse-text) .ensures) g
 
 parse-begin-same-length-2 : (t : ℕ) → parse-begin-lts.Need-same-length-2 (parse-begin-calls t) (parse-begin-at t) parse-begin.Post
 parse-begin-same-length-2 t c = search needs
@@ -791,7 +791,7 @@ parse-begin-same-length-2 t c = search needs
 parse-begin-returns-2 : (t : ℕ) → parse-begin-lts.Need-returns-2 (parse-begin-calls t) (parse-begin-at t) parse-begin.Post
 parse-begin-returns-2 t c =
     let g = rw ((c .before .before .before .before .before .before .before .before .before .before .content) .given .1) at ((c .before .before .before .before .before .before .before .before .before .before .before .before .before .before .parse-group) .ensures) in
-    after-one _ _ ((c .before .before .before .before .before .before .before .before .before .before .before .before .before .before .before .before .before .before .before .before .before .args) .p) _ _ _ _ ((text-made ((c .before .before .before .before .before .before .before .before .before .before .before .before .before .before .before .before .before .before .before .before .before .args) .s .now) _ ((c .before .before .before .before .before .before .before .before .before .before .before .before .before .before .before .before .before .parse-text) .ensures)) ∙ (next-made ((c .before .before .before .before .before .before .before .before .before .before .before .before .before .before .before .before .before .before .before .before .before .args) .s .now) ((c .before .before .before .before .before .before .before .before .before .before .before .before .before .before .before .before .before .before .before .before .before .args) .p) ((c .before .before .before .before .before .before .before .before .before .before .before .before .before .before .before .before .before .before .next-token) .ensures))) g _ _ _ _ ((c .before .before .make-environment) .result) ((text-made ((c .before .before .before .before .before .before .before .before .before .before .before .before .before .before .before .before .before .before .before .before .before .args) .s .now) _ ((c .before .before .before .before .before .before .before .parse-text2) .ensures)) ∙ (next-made ((c .before .before .before .before .before .before .before .before .before .before .before .before .before .before .before .before .before .before .before .before .before .args) .s .now) _ ((c .before .before .before .before .before .before .before .before .next-token2) .ensures))) ((c .before .before .make-environment) .ensures) (begin-is (λ q. parseNode ((c .before .before .before .before .before .before .before .before .before .before .before .before .before .before .before .before .before .before .before .before .before .args) .depth-left) ((c .before .before .before .before .before .before .before .before .before .before .before .before .before .before .before .before .before .before .before .before .before .args) .s .now) q) ((c .before .before .before .before .before .before .before .before .before .before .before .before .before .before .before .before .before .before .before .before .before .args) .s .now) ((c .before .before .before .before .before .before .before .before .before .before .before .before .before .before .before .before .before .before .before .before .before .args) .p) ((c .before .before .before .before .before .before .before .before .before .before .before .before .before .before .before .before .before .before .next-token) .ensures) ((c .before .before .before .before .before .before .before .before .before .before .before .before .before .before .before .before .before .parse-text) .ensures) (g .is) ((c .before .before .before .before .before .before .before .before .next-token2) .ensures) ((c .before .before .before .before .before .before .before .parse-text2) .ensures) ∙ ap (λ x. inEnvironment x (opened (g .tree)) ((c .before .before .before .before .before .before .before .parse-text2) .result .after)) (sym ((c .before .before .before .before .before .environment-of) .ensures)))
+    after-one _ _ ((c .before .before .before .before .before .before .before .before .before .before .before .before .before .before .before .before .before .before .before .before .before .args) .p) _ _ _ _ ((text-made ((c .before .before .before .before .before .before .before .before .before .before .before .before .before .before .before .before .before .before .before .before .before .args) .s .now) _ ((c .before .before .before .before .before .before .before .before .before .before .before .before .before .before .before .before .before .parse-text) .ensures)) ∙ (next-made ((c .before .before .before .before .before .before .before .before .before .before .before .before .before .before .before .before .before .before .before .before .before .args) .s .now) ((c .before .before .before .before .before .before .before .before .before .before .before .before .before .before .before .before .before .before .before .before .before .args) .p) ((c .before .before .before .before .before .before .before .before .before .before .before .before .before .before .before .before .before .before .next-token) .ensures))) g _ _ _ _ ((c .before .before .make-environment) .result) ((text-made ((c .before .before .before .before .before .before .before .before .before .before .before .before .before .before .before .before .before .before .before .before .before .args) .s .now) _ ((c .before .before .before .before .before .before .before .parse-text2) .ensures)) ∙ (next-made ((c .before .before .before .before .before .before .before .before .before .before .before .before .before .before .before .before .before .before .before .before .before .args) .s .now) _ ((c .before .before .before .before .before .before .before .before .next-token2) .ensures))) ((c .before .before .make-environment) .ensures) (begin-is (λ q. parseNode ((c .before .before .before .before .before .before .before .before .before .before .before .before .before .before .before .before .before .before .before .before .before .args) .depth) ((c .before .before .before .before .before .before .before .before .before .before .before .before .before .before .before .before .before .before .before .before .before .args) .s .now) q) ((c .before .before .before .before .before .before .before .before .before .before .before .before .before .before .before .before .before .before .before .before .before .args) .s .now) ((c .before .before .before .before .before .before .before .before .before .before .before .before .before .before .before .before .before .before .before .before .before .args) .p) ((c .before .before .before .before .before .before .before .before .before .before .before .before .before .before .before .before .before .before .next-token) .ensures) ((c .before .before .before .before .before .before .before .before .before .before .before .before .before .before .before .before .before .parse-text) .ensures) (g .is) ((c .before .before .before .before .before .before .before .before .next-token2) .ensures) ((c .before .before .before .before .before .before .before .parse-text2) .ensures) ∙ ap (λ x. inEnvironment x (opened (g .tree)) ((c .before .before .before .before .before .before .before .parse-text2) .result .after)) (sym ((c .before .before .before .before .before .environment-of) .ensures)))
 
 parse-brace-next-token-requires : (t : ℕ) → parse-brace-lts.Need-next-token-requires (parse-brace-calls t) (parse-brace-at t) parse-brace.Post
 parse-brace-next-token-requires t c κs = (c .before .before .pre) .1 .0 .sound .peek .inside
@@ -813,7 +813,7 @@ parse-brace-peek-token-is-requires t c κs = search needs
 parse-brace-make-leaf-second-requires : (t : ℕ) → parse-brace-lts.Need-make-leaf-second-requires (parse-brace-calls t) (parse-brace-at t) parse-brace.Post
 parse-brace-make-leaf-second-requires t c κs =
     let g = rw ((c .before .before .before .before .target) .given .1) at ((c .before .before .before .before .before .before .before .before .parse-single-node) .ensures) in
-    (ends-free 2 (node-ends ((c .before .before .before .before .before .before .before .before .parse-single-node) .kept .1 .0) 5 (ends-next (ready-ends ((c .before .before .before .before .before .before .before .before .before .before .before .before .before .pre) .1 .0) ((c .before .before .before .before .before .before .before .before .before .before .before .before .before .pre) .1 .1)) ((c .before .before .before .before .before .before .before .before .before .before .next-token) .ensures)) (omega arith) (single-keeps ((c .before .before .before .before .before .before .before .before .before .before .before .before .before .args) .depth-left) ((c .before .before .before .before .before .before .before .before .before .before .before .before .before .args) .s .now)) g) (omega arith), tt, g .below)
+    (ends-free 2 (node-ends ((c .before .before .before .before .before .before .before .before .parse-single-node) .kept .1 .0) 5 (ends-next (ready-ends ((c .before .before .before .before .before .before .before .before .before .before .before .before .before .pre) .1 .0) ((c .before .before .before .before .before .before .before .before .before .before .before .before .before .pre) .1 .1)) ((c .before .before .before .before .before .before .before .before .before .before .next-token) .ensures)) (omega arith) (single-keeps ((c .before .before .before .before .before .before .before .before .before .before .before .before .before .args) .depth) ((c .before .before .before .before .before .before .before .before .before .before .before .before .before .args) .s .now)) g) (omega arith), tt, g .below)
 
 parse-brace-same-length : (t : ℕ) → parse-brace-lts.Need-same-length (parse-brace-calls t) (parse-brace-at t) parse-brace.Post
 parse-brace-same-length t c = search needs
@@ -821,24 +821,24 @@ parse-brace-same-length t c = search needs
 parse-brace-returns : (t : ℕ) → parse-brace-lts.Need-returns (parse-brace-calls t) (parse-brace-at t) parse-brace.Post
 parse-brace-returns t c =
     let g = rw ((c .before .before .before .before .before .before .before .target) .given .1) at ((c .before .before .before .before .before .before .before .before .before .before .before .parse-single-node) .ensures) in
-    after-one _ _ ((c .before .before .before .before .before .before .before .before .before .before .before .before .before .before .before .before .args) .p) _ _ _ _ (next-made ((c .before .before .before .before .before .before .before .before .before .before .before .before .before .before .before .before .args) .s .now) ((c .before .before .before .before .before .before .before .before .before .before .before .before .before .before .before .before .args) .p) ((c .before .before .before .before .before .before .before .before .before .before .before .before .before .next-token) .ensures)) g _ _ _ _ ((c .before .before .make-leaf-second) .result) refl ((c .before .before .make-leaf-second) .ensures) (brace-bare (λ q. parseSingleNode ((c .before .before .before .before .before .before .before .before .before .before .before .before .before .before .before .before .args) .depth-left) ((c .before .before .before .before .before .before .before .before .before .before .before .before .before .before .before .before .args) .s .now) q) ((c .before .before .before .before .before .before .before .before .before .before .before .before .before .before .before .before .args) .s .now) ((c .before .before .before .before .before .before .before .before .before .before .before .before .before .before .before .before .args) .p) ((c .before .before .before .before .before .before .before .before .before .before .before .before .before .next-token) .ensures) ((c .before .before .before .before .before .before .before .before .before .before .before .before .before .before .before .before .args) .k) ((c .before .before .before .before .before .before .before .before .before .before .before .before .before .before .before .before .args) .mark) ((c .before .before .before .before .before .before .before .before .before .before .before .before .before .before .before .before .args) .x) (g .is) (sym ((c .before .before .before .before .before .peek-token-is) .ensures) ∙ not-true _ ((c .before .before .before .before .if1) .taken)))
+    after-one _ _ ((c .before .before .before .before .before .before .before .before .before .before .before .before .before .before .before .before .args) .p) _ _ _ _ (next-made ((c .before .before .before .before .before .before .before .before .before .before .before .before .before .before .before .before .args) .s .now) ((c .before .before .before .before .before .before .before .before .before .before .before .before .before .before .before .before .args) .p) ((c .before .before .before .before .before .before .before .before .before .before .before .before .before .next-token) .ensures)) g _ _ _ _ ((c .before .before .make-leaf-second) .result) refl ((c .before .before .make-leaf-second) .ensures) (brace-bare (λ q. parseSingleNode ((c .before .before .before .before .before .before .before .before .before .before .before .before .before .before .before .before .args) .depth) ((c .before .before .before .before .before .before .before .before .before .before .before .before .before .before .before .before .args) .s .now) q) ((c .before .before .before .before .before .before .before .before .before .before .before .before .before .before .before .before .args) .s .now) ((c .before .before .before .before .before .before .before .before .before .before .before .before .before .before .before .before .args) .p) ((c .before .before .before .before .before .before .before .before .before .before .before .before .before .next-token) .ensures) ((c .before .before .before .before .before .before .before .before .before .before .before .before .before .before .before .before .args) .k) ((c .before .before .before .before .before .before .before .before .before .before .before .before .before .before .before .before .args) .mark) ((c .before .before .before .before .before .before .before .before .before .before .before .before .before .before .before .before .args) .x) (g .is) (sym ((c .before .before .before .before .before .peek-token-is) .ensures) ∙ not-true _ ((c .before .before .before .before .if1) .taken)))
 
 parse-brace-next-token-requires-2 : (t : ℕ) → parse-brace-lts.Need-next-token-requires-2 (parse-brace-calls t) (parse-brace-at t) parse-brace.Post
 parse-brace-next-token-requires-2 t c κs =
     let g = rw ((c .before .before .before .target) .given .1) at ((c .before .before .before .before .before .before .before .parse-single-node) .ensures) in
-    (node-ends ((c .before .before .before .before .before .before .before .parse-single-node) .kept .1 .0) 5 (ends-next (ready-ends ((c .before .before .before .before .before .before .before .before .before .before .before .before .pre) .1 .0) ((c .before .before .before .before .before .before .before .before .before .before .before .before .pre) .1 .1)) ((c .before .before .before .before .before .before .before .before .before .next-token) .ensures)) (omega arith) (single-keeps ((c .before .before .before .before .before .before .before .before .before .before .before .before .args) .depth-left) ((c .before .before .before .before .before .before .before .before .before .before .before .before .args) .s .now)) g) .sound .peek .inside
+    (node-ends ((c .before .before .before .before .before .before .before .parse-single-node) .kept .1 .0) 5 (ends-next (ready-ends ((c .before .before .before .before .before .before .before .before .before .before .before .before .pre) .1 .0) ((c .before .before .before .before .before .before .before .before .before .before .before .before .pre) .1 .1)) ((c .before .before .before .before .before .before .before .before .before .next-token) .ensures)) (omega arith) (single-keeps ((c .before .before .before .before .before .before .before .before .before .before .before .before .args) .depth) ((c .before .before .before .before .before .before .before .before .before .before .before .before .args) .s .now)) g) .sound .peek .inside
 
 parse-brace-next-token-requires-3 : (t : ℕ) → parse-brace-lts.Need-next-token-requires-3 (parse-brace-calls t) (parse-brace-at t) parse-brace.Post
 parse-brace-next-token-requires-3 t c κs =
     let g = rw ((c .before .before .before .before .target) .given .1) at ((c .before .before .before .before .before .before .before .before .parse-single-node) .ensures) in
-    (ends-next (node-ends ((c .before .before .before .before .before .before .before .before .parse-single-node) .kept .1 .0) 5 (ends-next (ready-ends ((c .before .before .before .before .before .before .before .before .before .before .before .before .before .pre) .1 .0) ((c .before .before .before .before .before .before .before .before .before .before .before .before .before .pre) .1 .1)) ((c .before .before .before .before .before .before .before .before .before .before .next-token) .ensures)) (omega arith) (single-keeps ((c .before .before .before .before .before .before .before .before .before .before .before .before .before .args) .depth-left) ((c .before .before .before .before .before .before .before .before .before .before .before .before .before .args) .s .now)) g) ((c .next-token2) .ensures)) .sound .peek .inside
+    (ends-next (node-ends ((c .before .before .before .before .before .before .before .before .parse-single-node) .kept .1 .0) 5 (ends-next (ready-ends ((c .before .before .before .before .before .before .before .before .before .before .before .before .before .pre) .1 .0) ((c .before .before .before .before .before .before .before .before .before .before .before .before .before .pre) .1 .1)) ((c .before .before .before .before .before .before .before .before .before .before .next-token) .ensures)) (omega arith) (single-keeps ((c .before .before .before .before .before .before .before .before .before .before .before .before .before .args) .depth) ((c .before .before .before .before .before .before .before .before .before .before .before .before .before .args) .s .now)) g) ((c .next-token2) .ensures)) .sound .peek .inside
 
 parse-brace-parse-single-node-requires-2 :
     (t : ℕ) → parse-brace-lts.Need-parse-single-node-requires-2 (parse-brace-calls t) (parse-brace-at t) parse-brace.Post
 parse-brace-parse-single-node-requires-2 t c κs =
     let m = (c .before .before .before .before .before .before .before .before .before .before .before .before .before .before .before .pre) .0 in
     let g = rw ((c .before .before .before .before .before .before .target) .given .1) at ((c .before .before .before .before .before .before .before .before .before .before .parse-single-node) .ensures) in
-    (omega arith, starts-ready (ends-mark ((c .before .before .before .before .before .before .before .before .before .before .before .before .before .before .before .args) .mark) (node-ends ((c .before .before .before .before .before .before .before .before .before .before .parse-single-node) .kept .1 .0) 5 (ends-next (ready-ends ((c .before .before .before .before .before .before .before .before .before .before .before .before .before .before .before .pre) .1 .0) ((c .before .before .before .before .before .before .before .before .before .before .before .before .before .before .before .pre) .1 .1)) ((c .before .before .before .before .before .before .before .before .before .before .before .before .next-token) .ensures)) (omega arith) (single-keeps ((c .before .before .before .before .before .before .before .before .before .before .before .before .before .before .before .args) .depth-left) ((c .before .before .before .before .before .before .before .before .before .before .before .before .before .before .before .args) .s .now)) g) (sym ((c .before .before .before .before .peek-token-is) .ensures) ∙ not-false _ ((c .before .before .before .if1) .left)) ((c .before .before .before .before .before .before .before .before .before .before .before .before .before .before .before .pre) .1 .2) ((c .before .before .next-token2) .ensures) ((c .before .next-token3) .ensures)) (omega arith))
+    (omega arith, starts-ready (ends-mark ((c .before .before .before .before .before .before .before .before .before .before .before .before .before .before .before .args) .mark) (node-ends ((c .before .before .before .before .before .before .before .before .before .before .parse-single-node) .kept .1 .0) 5 (ends-next (ready-ends ((c .before .before .before .before .before .before .before .before .before .before .before .before .before .before .before .pre) .1 .0) ((c .before .before .before .before .before .before .before .before .before .before .before .before .before .before .before .pre) .1 .1)) ((c .before .before .before .before .before .before .before .before .before .before .before .before .next-token) .ensures)) (omega arith) (single-keeps ((c .before .before .before .before .before .before .before .before .before .before .before .before .before .before .before .args) .depth) ((c .before .before .before .before .before .before .before .before .before .before .before .before .before .before .before .args) .s .now)) g) (sym ((c .before .before .before .before .peek-token-is) .ensures) ∙ not-false _ ((c .before .before .before .if1) .left)) ((c .before .before .before .before .before .before .before .before .before .before .before .before .before .before .before .pre) .1 .2) ((c .before .before .next-token2) .ensures) ((c .before .next-token3) .ensures)) (omega arith))
 
 parse-brace-enum-known-r-2 : (t : ℕ) → parse-brace-lts.Need-enum-known-r-2 (parse-brace-calls t) (parse-brace-at t) parse-brace.Post
 parse-brace-enum-known-r-2 t c = search needs
@@ -850,7 +850,7 @@ parse-brace-make-explained-requires : (t : ℕ) → parse-brace-lts.Need-make-ex
 parse-brace-make-explained-requires t c κs =
     let g = rw ((c .before .before .before .before .before .before .before .before .before .before .before .before .before .target) .given .1) at ((c .before .before .before .before .before .before .before .before .before .before .before .before .before .before .before .before .before .parse-single-node) .ensures) in
     let h = rw ((c .before .before .expl) .given .1) at ((c .before .before .before .before .before .before .parse-single-node2) .ensures) in
-    (ends-free 3 (node-ends ((c .before .before .before .before .before .before .parse-single-node2) .kept .1 .0) 6 (ends-mark ((c .before .before .before .before .before .before .before .before .before .before .before .before .before .before .before .before .before .before .before .before .before .before .args) .mark) (node-ends ((c .before .before .before .before .before .before .before .before .before .before .before .before .before .before .before .before .before .parse-single-node) .kept .1 .0) 5 (ends-next (ready-ends ((c .before .before .before .before .before .before .before .before .before .before .before .before .before .before .before .before .before .before .before .before .before .before .pre) .1 .0) ((c .before .before .before .before .before .before .before .before .before .before .before .before .before .before .before .before .before .before .before .before .before .before .pre) .1 .1)) ((c .before .before .before .before .before .before .before .before .before .before .before .before .before .before .before .before .before .before .before .next-token) .ensures)) (omega arith) (single-keeps ((c .before .before .before .before .before .before .before .before .before .before .before .before .before .before .before .before .before .before .before .before .before .before .args) .depth-left) ((c .before .before .before .before .before .before .before .before .before .before .before .before .before .before .before .before .before .before .before .before .before .before .args) .s .now)) g) (sym ((c .before .before .before .before .before .before .before .before .before .before .before .peek-token-is) .ensures) ∙ not-false _ ((c .before .before .before .before .before .before .before .before .before .before .if1) .left)) ((c .before .before .before .before .before .before .before .before .before .before .before .before .before .before .before .before .before .before .before .before .before .before .pre) .1 .2) ((c .before .before .before .before .before .before .before .before .before .next-token2) .ensures) ((c .before .before .before .before .before .before .before .before .next-token3) .ensures)) (omega arith) (single-keeps ((c .before .before .before .before .before .before .before .before .before .before .before .before .before .before .before .before .before .before .before .before .before .before .args) .depth-left) ((c .before .before .before .before .before .before .before .before .before .before .before .before .before .before .before .before .before .before .before .before .before .before .args) .s .now)) h) (omega arith), first-below _ _ ((c .before .before .before .before .before .before .before .before .before .before .before .before .before .before .before .before .before .before .before .before .before .before .args) .p) _ _ _ _ (next-made ((c .before .before .before .before .before .before .before .before .before .before .before .before .before .before .before .before .before .before .before .before .before .before .args) .s .now) ((c .before .before .before .before .before .before .before .before .before .before .before .before .before .before .before .before .before .before .before .before .before .before .args) .p) ((c .before .before .before .before .before .before .before .before .before .before .before .before .before .before .before .before .before .before .before .next-token) .ensures)) g _ _ _ _ _ ((next-made ((c .before .before .before .before .before .before .before .before .before .before .before .before .before .before .before .before .before .before .before .before .before .before .args) .s .now) _ ((c .before .before .before .before .before .before .before .before .next-token3) .ensures)) ∙ (next-made ((c .before .before .before .before .before .before .before .before .before .before .before .before .before .before .before .before .before .before .before .before .before .before .args) .s .now) _ ((c .before .before .before .before .before .before .before .before .before .next-token2) .ensures))) h, h .below)
+    (ends-free 3 (node-ends ((c .before .before .before .before .before .before .parse-single-node2) .kept .1 .0) 6 (ends-mark ((c .before .before .before .before .before .before .before .before .before .before .before .before .before .before .before .before .before .before .before .before .before .before .args) .mark) (node-ends ((c .before .before .before .before .before .before .before .before .before .before .before .before .before .before .before .before .before .parse-single-node) .kept .1 .0) 5 (ends-next (ready-ends ((c .before .before .before .before .before .before .before .before .before .before .before .before .before .before .before .before .before .before .before .before .before .before .pre) .1 .0) ((c .before .before .before .before .before .before .before .before .before .before .before .before .before .before .before .before .before .before .before .before .before .before .pre) .1 .1)) ((c .before .before .before .before .before .before .before .before .before .before .before .before .before .before .before .before .before .before .before .next-token) .ensures)) (omega arith) (single-keeps ((c .before .before .before .before .before .before .before .before .before .before .before .before .before .before .before .before .before .before .before .before .before .before .args) .depth) ((c .before .before .before .before .before .before .before .before .before .before .before .before .before .before .before .before .before .before .before .before .before .before .args) .s .now)) g) (sym ((c .before .before .before .before .before .before .before .before .before .before .before .peek-token-is) .ensures) ∙ not-false _ ((c .before .before .before .before .before .before .before .before .before .before .if1) .left)) ((c .before .before .before .before .before .before .before .before .before .before .before .before .before .before .before .before .before .before .before .before .before .before .pre) .1 .2) ((c .before .before .before .before .before .before .before .before .before .next-token2) .ensures) ((c .before .before .before .before .before .before .before .before .next-token3) .ensures)) (omega arith) (single-keeps ((c .before .before .before .before .before .before .before .before .before .before .before .before .before .before .before .before .before .before .before .before .before .before .args) .depth) ((c .before .before .before .before .before .before .before .before .before .before .before .before .before .before .before .before .before .before .before .before .before .before .args) .s .now)) h) (omega arith), first-below _ _ ((c .before .before .before .before .before .before .before .before .before .before .before .before .before .before .before .before .before .before .before .before .before .before .args) .p) _ _ _ _ (next-made ((c .before .before .before .before .before .before .before .before .before .before .before .before .before .before .before .before .before .before .before .before .before .before .args) .s .now) ((c .before .before .before .before .before .before .before .before .before .before .before .before .before .before .before .before .before .before .before .before .before .before .args) .p) ((c .before .before .before .before .before .before .before .before .before .before .before .before .before .before .before .before .before .before .before .next-token) .ensures)) g _ _ _ _ _ ((next-made ((c .before .before .before .before .before .before .before .before .before .before .before .before .before .before .before .before .before .before .before .before .before .before .args) .s .now) _ ((c .before .before .before .before .before .before .before .before .next-token3) .ensures)) ∙ (next-made ((c .before .before .before .before .before .before .before .before .before .before .before .before .before .before .before .before .before .before .before .before .before .before .args) .s .now) _ ((c .before .before .before .before .before .before .before .before .before .next-token2) .ensures))) h, h .below)
 
 parse-brace-same-length-2 : (t : ℕ) → parse-brace-lts.Need-same-length-2 (parse-brace-calls t) (parse-brace-at t) parse-brace.Post
 parse-brace-same-length-2 t c = search needs
@@ -858,7 +858,7 @@ parse-brace-same-length-2 t c = search needs
 parse-brace-returns-2 : (t : ℕ) → parse-brace-lts.Need-returns-2 (parse-brace-calls t) (parse-brace-at t) parse-brace.Post
 parse-brace-returns-2 t c =
     let g = rw ((c .before .r) .given .1) at ((c .before .before .before .before .before .parse-single-node) .ensures) in
-    brace-no (λ q. parseSingleNode ((c .before .before .before .before .before .before .before .before .before .before .args) .depth-left) ((c .before .before .before .before .before .before .before .before .before .before .args) .s .now) q) ((c .before .before .before .before .before .before .before .before .before .before .args) .s .now) ((c .before .before .before .before .before .before .before .before .before .before .args) .p) ((c .before .before .before .before .before .before .before .next-token) .ensures) ((c .before .before .before .before .before .before .before .before .before .before .args) .k) ((c .before .before .before .before .before .before .before .before .before .before .args) .mark) ((c .before .before .before .before .before .before .before .before .before .before .args) .x) g
+    brace-no (λ q. parseSingleNode ((c .before .before .before .before .before .before .before .before .before .before .args) .depth) ((c .before .before .before .before .before .before .before .before .before .before .args) .s .now) q) ((c .before .before .before .before .before .before .before .before .before .before .args) .s .now) ((c .before .before .before .before .before .before .before .before .before .before .args) .p) ((c .before .before .before .before .before .before .before .next-token) .ensures) ((c .before .before .before .before .before .before .before .before .before .before .args) .k) ((c .before .before .before .before .before .before .before .before .before .before .args) .mark) ((c .before .before .before .before .before .before .before .before .before .before .args) .x) g
 
 parse-brace-same-length-3 : (t : ℕ) → parse-brace-lts.Need-same-length-3 (parse-brace-calls t) (parse-brace-at t) parse-brace.Post
 parse-brace-same-length-3 t c = search needs
@@ -867,7 +867,7 @@ parse-brace-returns-3 : (t : ℕ) → parse-brace-lts.Need-returns-3 (parse-brac
 parse-brace-returns-3 t c =
     let g = rw ((c .before .before .before .before .before .before .before .before .before .before .before .before .target) .given .1) at ((c .before .before .before .before .before .before .before .before .before .before .before .before .before .before .before .before .parse-single-node) .ensures) in
     let h = rw ((c .before .r2) .given .1) at ((c .before .before .before .before .before .parse-single-node2) .ensures) in
-    brace-no-2 (λ q. parseSingleNode ((c .before .before .before .before .before .before .before .before .before .before .before .before .before .before .before .before .before .before .before .before .before .args) .depth-left) ((c .before .before .before .before .before .before .before .before .before .before .before .before .before .before .before .before .before .before .before .before .before .args) .s .now) q) ((c .before .before .before .before .before .before .before .before .before .before .before .before .before .before .before .before .before .before .before .before .before .args) .s .now) ((c .before .before .before .before .before .before .before .before .before .before .before .before .before .before .before .before .before .before .before .before .before .args) .p) ((c .before .before .before .before .before .before .before .before .before .before .before .before .before .before .before .before .before .before .next-token) .ensures) ((c .before .before .before .before .before .before .before .before .before .before .before .before .before .before .before .before .before .before .before .before .before .args) .k) ((c .before .before .before .before .before .before .before .before .before .before .before .before .before .before .before .before .before .before .before .before .before .args) .mark) ((c .before .before .before .before .before .before .before .before .before .before .before .before .before .before .before .before .before .before .before .before .before .args) .x) (g .is) (sym ((c .before .before .before .before .before .before .before .before .before .before .peek-token-is) .ensures) ∙ not-false _ ((c .before .before .before .before .before .before .before .before .before .if1) .left)) ((c .before .before .before .before .before .before .before .before .next-token2) .ensures) ((c .before .before .before .before .before .before .before .next-token3) .ensures) h
+    brace-no-2 (λ q. parseSingleNode ((c .before .before .before .before .before .before .before .before .before .before .before .before .before .before .before .before .before .before .before .before .before .args) .depth) ((c .before .before .before .before .before .before .before .before .before .before .before .before .before .before .before .before .before .before .before .before .before .args) .s .now) q) ((c .before .before .before .before .before .before .before .before .before .before .before .before .before .before .before .before .before .before .before .before .before .args) .s .now) ((c .before .before .before .before .before .before .before .before .before .before .before .before .before .before .before .before .before .before .before .before .before .args) .p) ((c .before .before .before .before .before .before .before .before .before .before .before .before .before .before .before .before .before .before .next-token) .ensures) ((c .before .before .before .before .before .before .before .before .before .before .before .before .before .before .before .before .before .before .before .before .before .args) .k) ((c .before .before .before .before .before .before .before .before .before .before .before .before .before .before .before .before .before .before .before .before .before .args) .mark) ((c .before .before .before .before .before .before .before .before .before .before .before .before .before .before .before .before .before .before .before .before .before .args) .x) (g .is) (sym ((c .before .before .before .before .before .before .before .before .before .before .peek-token-is) .ensures) ∙ not-false _ ((c .before .before .before .before .before .before .before .before .before .if1) .left)) ((c .before .before .before .before .before .before .before .before .next-token2) .ensures) ((c .before .before .before .before .before .before .before .next-token3) .ensures) h
 
 parse-brace-same-length-4 : (t : ℕ) → parse-brace-lts.Need-same-length-4 (parse-brace-calls t) (parse-brace-at t) parse-brace.Post
 parse-brace-same-length-4 t c =
@@ -877,14 +877,14 @@ parse-brace-returns-4 : (t : ℕ) → parse-brace-lts.Need-returns-4 (parse-brac
 parse-brace-returns-4 t c =
     let g = rw ((c .before .before .before .before .before .before .before .before .before .before .before .before .before .before .before .before .target) .given .1) at ((c .before .before .before .before .before .before .before .before .before .before .before .before .before .before .before .before .before .before .before .before .parse-single-node) .ensures) in
     let h = rw ((c .before .before .before .before .before .expl) .given .1) at ((c .before .before .before .before .before .before .before .before .before .parse-single-node2) .ensures) in
-    after-two _ _ ((c .before .before .before .before .before .before .before .before .before .before .before .before .before .before .before .before .before .before .before .before .before .before .before .before .before .args) .p) _ _ _ _ (next-made ((c .before .before .before .before .before .before .before .before .before .before .before .before .before .before .before .before .before .before .before .before .before .before .before .before .before .args) .s .now) ((c .before .before .before .before .before .before .before .before .before .before .before .before .before .before .before .before .before .before .before .before .before .before .before .before .before .args) .p) ((c .before .before .before .before .before .before .before .before .before .before .before .before .before .before .before .before .before .before .before .before .before .before .next-token) .ensures)) g _ _ _ _ _ ((next-made ((c .before .before .before .before .before .before .before .before .before .before .before .before .before .before .before .before .before .before .before .before .before .before .before .before .before .args) .s .now) _ ((c .before .before .before .before .before .before .before .before .before .before .before .next-token3) .ensures)) ∙ (next-made ((c .before .before .before .before .before .before .before .before .before .before .before .before .before .before .before .before .before .before .before .before .before .before .before .before .before .args) .s .now) _ ((c .before .before .before .before .before .before .before .before .before .before .before .before .next-token2) .ensures))) h _ _ _ _ ((c .before .before .make-explained) .result) refl ((c .before .before .make-explained) .ensures) (brace-is (λ q. parseSingleNode ((c .before .before .before .before .before .before .before .before .before .before .before .before .before .before .before .before .before .before .before .before .before .before .before .before .before .args) .depth-left) ((c .before .before .before .before .before .before .before .before .before .before .before .before .before .before .before .before .before .before .before .before .before .before .before .before .before .args) .s .now) q) ((c .before .before .before .before .before .before .before .before .before .before .before .before .before .before .before .before .before .before .before .before .before .before .before .before .before .args) .s .now) ((c .before .before .before .before .before .before .before .before .before .before .before .before .before .before .before .before .before .before .before .before .before .before .before .before .before .args) .p) ((c .before .before .before .before .before .before .before .before .before .before .before .before .before .before .before .before .before .before .before .before .before .before .next-token) .ensures) ((c .before .before .before .before .before .before .before .before .before .before .before .before .before .before .before .before .before .before .before .before .before .before .before .before .before .args) .k) ((c .before .before .before .before .before .before .before .before .before .before .before .before .before .before .before .before .before .before .before .before .before .before .before .before .before .args) .mark) ((c .before .before .before .before .before .before .before .before .before .before .before .before .before .before .before .before .before .before .before .before .before .before .before .before .before .args) .x) (g .is) (sym ((c .before .before .before .before .before .before .before .before .before .before .before .before .before .before .peek-token-is) .ensures) ∙ not-false _ ((c .before .before .before .before .before .before .before .before .before .before .before .before .before .if1) .left)) ((c .before .before .before .before .before .before .before .before .before .before .before .before .next-token2) .ensures) ((c .before .before .before .before .before .before .before .before .before .before .before .next-token3) .ensures) (h .is))
+    after-two _ _ ((c .before .before .before .before .before .before .before .before .before .before .before .before .before .before .before .before .before .before .before .before .before .before .before .before .before .args) .p) _ _ _ _ (next-made ((c .before .before .before .before .before .before .before .before .before .before .before .before .before .before .before .before .before .before .before .before .before .before .before .before .before .args) .s .now) ((c .before .before .before .before .before .before .before .before .before .before .before .before .before .before .before .before .before .before .before .before .before .before .before .before .before .args) .p) ((c .before .before .before .before .before .before .before .before .before .before .before .before .before .before .before .before .before .before .before .before .before .before .next-token) .ensures)) g _ _ _ _ _ ((next-made ((c .before .before .before .before .before .before .before .before .before .before .before .before .before .before .before .before .before .before .before .before .before .before .before .before .before .args) .s .now) _ ((c .before .before .before .before .before .before .before .before .before .before .before .next-token3) .ensures)) ∙ (next-made ((c .before .before .before .before .before .before .before .before .before .before .before .before .before .before .before .before .before .before .before .before .before .before .before .before .before .args) .s .now) _ ((c .before .before .before .before .before .before .before .before .before .before .before .before .next-token2) .ensures))) h _ _ _ _ ((c .before .before .make-explained) .result) refl ((c .before .before .make-explained) .ensures) (brace-is (λ q. parseSingleNode ((c .before .before .before .before .before .before .before .before .before .before .before .before .before .before .before .before .before .before .before .before .before .before .before .before .before .args) .depth) ((c .before .before .before .before .before .before .before .before .before .before .before .before .before .before .before .before .before .before .before .before .before .before .before .before .before .args) .s .now) q) ((c .before .before .before .before .before .before .before .before .before .before .before .before .before .before .before .before .before .before .before .before .before .before .before .before .before .args) .s .now) ((c .before .before .before .before .before .before .before .before .before .before .before .before .before .before .before .before .before .before .before .before .before .before .before .before .before .args) .p) ((c .before .before .before .before .before .before .before .before .before .before .before .before .before .before .before .before .before .before .before .before .before .before .next-token) .ensures) ((c .before .before .before .before .before .before .before .before .before .before .before .before .before .before .before .before .before .before .before .before .before .before .before .before .before .args) .k) ((c .before .before .before .before .before .before .before .before .before .before .before .before .before .before .before .before .before .before .before .before .before .before .before .before .before .args) .mark) ((c .before .before .before .before .before .before .before .before .before .before .before .before .before .before .before .before .before .before .before .before .before .before .before .before .before .args) .x) (g .is) (sym ((c .before .before .before .before .before .before .before .before .before .before .before .before .before .before .peek-token-is) .ensures) ∙ not-false _ ((c .before .before .before .before .before .before .before .before .before .before .before .before .before .if1) .left)) ((c .before .before .before .before .before .before .before .before .before .before .before .before .next-token2) .ensures) ((c .before .before .before .before .before .before .before .before .before .before .before .next-token3) .ensures) (h .is))
 
 abbrev parse-group-Inv-loop : parse-group-lts.InvT-loop
-parse-group-Inv-loop s store₀ depth-left end q₀ first₀ last₀ count₀ store q first last count =
-    (length store ≡ length store₀) × GroupLoop s (λ x. parseNode depth-left s x) end q₀ store₀ store q first last count
+parse-group-Inv-loop s store₀ depth end q₀ first₀ last₀ count₀ store q first last count =
+    (length store ≡ length store₀) × GroupLoop s (λ x. parseNode depth s x) end q₀ store₀ store q first last count
 
 abbrev parse-group-μ-loop : parse-group-lts.MeasureT-loop
-parse-group-μ-loop s store₀ depth-left end q₀ first₀ last₀ count₀ store q first last count =
+parse-group-μ-loop s store₀ depth end q₀ first₀ last₀ count₀ store q first last count =
     length s - q .cur .start
 
 parse-group-next-token-requires : (t : ℕ) → parse-group-lts.Need-next-token-requires (parse-group-calls t) (parse-group-at t) parse-group.Post parse-group-Inv-loop parse-group-μ-loop
@@ -902,7 +902,7 @@ parse-group-same-length t c = search needs
 
 parse-group-returns : (t : ℕ) → parse-group-lts.Need-returns (parse-group-calls t) (parse-group-at t) parse-group.Post parse-group-Inv-loop parse-group-μ-loop
 parse-group-returns t c =
-    group-end (λ q. parseNode ((c .before .before .before .before .before .before .args) .depth-left) ((c .before .before .before .before .before .before .args) .s .now) q) ((c .before .before .before .before .before .before .args) .s .now) ((c .before .before .before .before .before .before .args) .end) ((c .before .before .loop) .inv .1) ((c .before .before .before .before .before .before .args) .p) _ (sym ((c .before .cur-token-is) .ensures) ∙ (c .if1) .taken) (group-is (λ q. parseNode ((c .before .before .before .before .before .before .args) .depth-left) ((c .before .before .before .before .before .before .args) .s .now) q) ((c .before .before .before .before .before .before .args) .s .now) ((c .before .before .before .before .before .before .args) .end) ((c .before .before .before .before .before .before .args) .p) ((c .before .before .before .next-token) .ensures))
+    group-end (λ q. parseNode ((c .before .before .before .before .before .before .args) .depth) ((c .before .before .before .before .before .before .args) .s .now) q) ((c .before .before .before .before .before .before .args) .s .now) ((c .before .before .before .before .before .before .args) .end) ((c .before .before .loop) .inv .1) ((c .before .before .before .before .before .before .args) .p) _ (sym ((c .before .cur-token-is) .ensures) ∙ (c .if1) .taken) (group-is (λ q. parseNode ((c .before .before .before .before .before .before .args) .depth) ((c .before .before .before .before .before .before .args) .s .now) q) ((c .before .before .before .before .before .before .args) .s .now) ((c .before .before .before .before .before .before .args) .end) ((c .before .before .before .before .before .before .args) .p) ((c .before .before .before .next-token) .ensures))
 
 parse-group-cur-token-is-requires-2 : (t : ℕ) → parse-group-lts.Need-cur-token-is-requires-2 (parse-group-calls t) (parse-group-at t) parse-group.Post parse-group-Inv-loop parse-group-μ-loop
 parse-group-cur-token-is-requires-2 t c κs = search needs
@@ -920,7 +920,7 @@ parse-group-same-length-2 t c =
 
 parse-group-returns-2 : (t : ℕ) → parse-group-lts.Need-returns-2 (parse-group-calls t) (parse-group-at t) parse-group.Post parse-group-Inv-loop parse-group-μ-loop
 parse-group-returns-2 t c =
-    group-closed (λ q. parseNode ((c .before .before .before .before .before .before .before .before .before .before .before .before .args) .depth-left) ((c .before .before .before .before .before .before .before .before .before .before .before .before .args) .s .now) q) ((c .before .before .before .before .before .before .before .before .before .before .before .before .args) .s .now) ((c .before .before .before .before .before .before .before .before .before .before .before .before .args) .end) ((c .before .before .before .before .before .before .before .before .loop) .inv .1) _ ((c .before .before .before .before .before .before .before .before .before .before .before .before .args) .p) _ ((c .before .before .make-row) .result) (sym ((c .before .before .before .before .before .before .before .cur-token-is) .ensures) ∙ (c .before .before .before .before .before .before .if1) .left) (sym ((c .before .before .before .before .before .cur-token-is2) .ensures) ∙ (c .before .before .before .before .if2) .taken) (next-made ((c .before .before .before .before .before .before .before .before .before .before .before .before .args) .s .now) ((c .before .before .before .before .before .before .before .before .before .before .before .before .args) .p) ((c .before .before .before .before .before .before .before .before .before .next-token) .ensures)) (group-is (λ q. parseNode ((c .before .before .before .before .before .before .before .before .before .before .before .before .args) .depth-left) ((c .before .before .before .before .before .before .before .before .before .before .before .before .args) .s .now) q) ((c .before .before .before .before .before .before .before .before .before .before .before .before .args) .s .now) ((c .before .before .before .before .before .before .before .before .before .before .before .before .args) .end) ((c .before .before .before .before .before .before .before .before .before .before .before .before .args) .p) ((c .before .before .before .before .before .before .before .before .before .next-token) .ensures)) ((c .before .before .make-row) .ensures)
+    group-closed (λ q. parseNode ((c .before .before .before .before .before .before .before .before .before .before .before .before .args) .depth) ((c .before .before .before .before .before .before .before .before .before .before .before .before .args) .s .now) q) ((c .before .before .before .before .before .before .before .before .before .before .before .before .args) .s .now) ((c .before .before .before .before .before .before .before .before .before .before .before .before .args) .end) ((c .before .before .before .before .before .before .before .before .loop) .inv .1) _ ((c .before .before .before .before .before .before .before .before .before .before .before .before .args) .p) _ ((c .before .before .make-row) .result) (sym ((c .before .before .before .before .before .before .before .cur-token-is) .ensures) ∙ (c .before .before .before .before .before .before .if1) .left) (sym ((c .before .before .before .before .before .cur-token-is2) .ensures) ∙ (c .before .before .before .before .if2) .taken) (next-made ((c .before .before .before .before .before .before .before .before .before .before .before .before .args) .s .now) ((c .before .before .before .before .before .before .before .before .before .before .before .before .args) .p) ((c .before .before .before .before .before .before .before .before .before .next-token) .ensures)) (group-is (λ q. parseNode ((c .before .before .before .before .before .before .before .before .before .before .before .before .args) .depth) ((c .before .before .before .before .before .before .before .before .before .before .before .before .args) .s .now) q) ((c .before .before .before .before .before .before .before .before .before .before .before .before .args) .s .now) ((c .before .before .before .before .before .before .before .before .before .before .before .before .args) .end) ((c .before .before .before .before .before .before .before .before .before .before .before .before .args) .p) ((c .before .before .before .before .before .before .before .before .before .next-token) .ensures)) ((c .before .before .make-row) .ensures)
 
 parse-group-parse-node-requires : (t : ℕ) → parse-group-lts.Need-parse-node-requires (parse-group-calls t) (parse-group-at t) parse-group.Post parse-group-Inv-loop parse-group-μ-loop
 parse-group-parse-node-requires t c κs =
@@ -937,7 +937,7 @@ parse-group-same-length-3 t c =
 parse-group-returns-3 : (t : ℕ) → parse-group-lts.Need-returns-3 (parse-group-calls t) (parse-group-at t) parse-group.Post parse-group-Inv-loop parse-group-μ-loop
 parse-group-returns-3 t c =
     let g = rw ((c .before .r) .given .1) at ((c .before .before .before .before .before .parse-node) .ensures) in
-    group-refused (λ q. parseNode ((c .before .before .before .before .before .before .before .before .before .before .before .before .before .before .before .args) .depth-left) ((c .before .before .before .before .before .before .before .before .before .before .before .before .before .before .before .args) .s .now) q) ((c .before .before .before .before .before .before .before .before .before .before .before .before .before .before .before .args) .s .now) ((c .before .before .before .before .before .before .before .before .before .before .before .before .before .before .before .args) .end) ((c .before .before .before .before .before .before .before .before .before .before .before .loop) .inv .1) _ (sym ((c .before .before .before .before .before .before .before .before .before .before .cur-token-is) .ensures) ∙ (c .before .before .before .before .before .before .before .before .before .if1) .left) (sym ((c .before .before .before .before .before .before .before .before .cur-token-is2) .ensures) ∙ (c .before .before .before .before .before .before .before .if2) .left) g (group-is (λ q. parseNode ((c .before .before .before .before .before .before .before .before .before .before .before .before .before .before .before .args) .depth-left) ((c .before .before .before .before .before .before .before .before .before .before .before .before .before .before .before .args) .s .now) q) ((c .before .before .before .before .before .before .before .before .before .before .before .before .before .before .before .args) .s .now) ((c .before .before .before .before .before .before .before .before .before .before .before .before .before .before .before .args) .end) ((c .before .before .before .before .before .before .before .before .before .before .before .before .before .before .before .args) .p) ((c .before .before .before .before .before .before .before .before .before .before .before .before .next-token) .ensures))
+    group-refused (λ q. parseNode ((c .before .before .before .before .before .before .before .before .before .before .before .before .before .before .before .args) .depth) ((c .before .before .before .before .before .before .before .before .before .before .before .before .before .before .before .args) .s .now) q) ((c .before .before .before .before .before .before .before .before .before .before .before .before .before .before .before .args) .s .now) ((c .before .before .before .before .before .before .before .before .before .before .before .before .before .before .before .args) .end) ((c .before .before .before .before .before .before .before .before .before .before .before .loop) .inv .1) _ (sym ((c .before .before .before .before .before .before .before .before .before .before .cur-token-is) .ensures) ∙ (c .before .before .before .before .before .before .before .before .before .if1) .left) (sym ((c .before .before .before .before .before .before .before .before .cur-token-is2) .ensures) ∙ (c .before .before .before .before .before .before .before .if2) .left) g (group-is (λ q. parseNode ((c .before .before .before .before .before .before .before .before .before .before .before .before .before .before .before .args) .depth) ((c .before .before .before .before .before .before .before .before .before .before .before .before .before .before .before .args) .s .now) q) ((c .before .before .before .before .before .before .before .before .before .before .before .before .before .before .before .args) .s .now) ((c .before .before .before .before .before .before .before .before .before .before .before .before .before .before .before .args) .end) ((c .before .before .before .before .before .before .before .before .before .before .before .before .before .before .before .args) .p) ((c .before .before .before .before .before .before .before .before .before .before .before .before .next-token) .ensures))
 
 parse-group-enum-known-i : (t : ℕ) → parse-group-lts.Need-enum-known-i (parse-group-calls t) (parse-group-at t) parse-group.Post parse-group-Inv-loop parse-group-μ-loop
 parse-group-enum-known-i t c = search needs
@@ -945,7 +945,7 @@ parse-group-enum-known-i t c = search needs
 parse-group-append-requires : (t : ℕ) → parse-group-lts.Need-append-requires (parse-group-calls t) (parse-group-at t) parse-group.Post parse-group-Inv-loop parse-group-μ-loop
 parse-group-append-requires t c κs =
     let g = rw ((c .before .before .i) .given .1) at ((c .before .before .before .before .before .before .parse-node) .ensures) in
-    more-append ((c .before .before .before .before .before .before .before .before .before .before .before .before .loop) .inv .1) (node-keeps ((c .before .before .before .before .before .before .before .before .before .before .before .before .before .before .before .before .args) .depth-left) ((c .before .before .before .before .before .before .before .before .before .before .before .before .before .before .before .before .args) .s .now)) (sym ((c .before .before .before .before .before .before .before .before .before .before .before .cur-token-is) .ensures) ∙ (c .before .before .before .before .before .before .before .before .before .before .if1) .left) ((c .before .before .before .before .before .before .parse-node) .kept .1 .0) g
+    more-append ((c .before .before .before .before .before .before .before .before .before .before .before .before .loop) .inv .1) (node-keeps ((c .before .before .before .before .before .before .before .before .before .before .before .before .before .before .before .before .args) .depth) ((c .before .before .before .before .before .before .before .before .before .before .before .before .before .before .before .before .args) .s .now)) (sym ((c .before .before .before .before .before .before .before .before .before .before .before .cur-token-is) .ensures) ∙ (c .before .before .before .before .before .before .before .before .before .before .if1) .left) ((c .before .before .before .before .before .before .parse-node) .kept .1 .0) g
 
 parse-group-add-count : (t : ℕ) → parse-group-lts.Need-add-count (parse-group-calls t) (parse-group-at t) parse-group.Post parse-group-Inv-loop parse-group-μ-loop
 parse-group-add-count t c =
@@ -957,12 +957,12 @@ parse-group-add-count t c =
 parse-group-next-token-requires-2 : (t : ℕ) → parse-group-lts.Need-next-token-requires-2 (parse-group-calls t) (parse-group-at t) parse-group.Post parse-group-Inv-loop parse-group-μ-loop
 parse-group-next-token-requires-2 t c κs =
     let g = rw ((c .before .before .before .before .before .i) .given .1) at ((c .before .before .before .before .before .before .before .before .before .parse-node) .ensures) in
-    (more-ends ((c .before .before .before .before .before .before .before .before .before .before .before .before .before .before .before .loop) .inv .1) (node-keeps ((c .before .before .before .before .before .before .before .before .before .before .before .before .before .before .before .before .before .before .before .args) .depth-left) ((c .before .before .before .before .before .before .before .before .before .before .before .before .before .before .before .before .before .before .before .args) .s .now)) (sym ((c .before .before .before .before .before .before .before .before .before .before .before .before .before .before .cur-token-is) .ensures) ∙ (c .before .before .before .before .before .before .before .before .before .before .before .before .before .if1) .left) ((c .before .before .before .before .before .before .before .before .before .parse-node) .kept .1 .0) g) .sound .peek .inside
+    (more-ends ((c .before .before .before .before .before .before .before .before .before .before .before .before .before .before .before .loop) .inv .1) (node-keeps ((c .before .before .before .before .before .before .before .before .before .before .before .before .before .before .before .before .before .before .before .args) .depth) ((c .before .before .before .before .before .before .before .before .before .before .before .before .before .before .before .before .before .before .before .args) .s .now)) (sym ((c .before .before .before .before .before .before .before .before .before .before .before .before .before .before .cur-token-is) .ensures) ∙ (c .before .before .before .before .before .before .before .before .before .before .before .before .before .if1) .left) ((c .before .before .before .before .before .before .before .before .before .parse-node) .kept .1 .0) g) .sound .peek .inside
 
 parse-group-loop-less : (t : ℕ) → parse-group-lts.Need-loop-less (parse-group-calls t) (parse-group-at t) parse-group.Post parse-group-Inv-loop parse-group-μ-loop
 parse-group-loop-less t c =
     let g = rw ((c .before .before .before .before .before .before .i) .given .1) at ((c .before .before .before .before .before .before .before .before .before .before .parse-node) .ensures) in
-    let l = more-less ((c .before .before .before .before .before .before .before .before .before .before .before .before .before .before .before .before .loop) .inv .1) (node-keeps ((c .before .before .before .before .before .before .before .before .before .before .before .before .before .before .before .before .before .before .before .before .args) .depth-left) ((c .before .before .before .before .before .before .before .before .before .before .before .before .before .before .before .before .before .before .before .before .args) .s .now)) (sym ((c .before .before .before .before .before .before .before .before .before .before .before .before .before .before .before .cur-token-is) .ensures) ∙ (c .before .before .before .before .before .before .before .before .before .before .before .before .before .before .if1) .left) ((c .before .before .before .before .before .before .before .before .before .before .parse-node) .kept .1 .0) g _ ((c .next-token2) .ensures) in
+    let l = more-less ((c .before .before .before .before .before .before .before .before .before .before .before .before .before .before .before .before .loop) .inv .1) (node-keeps ((c .before .before .before .before .before .before .before .before .before .before .before .before .before .before .before .before .before .before .before .before .args) .depth) ((c .before .before .before .before .before .before .before .before .before .before .before .before .before .before .before .before .before .before .before .before .args) .s .now)) (sym ((c .before .before .before .before .before .before .before .before .before .before .before .before .before .before .before .cur-token-is) .ensures) ∙ (c .before .before .before .before .before .before .before .before .before .before .before .before .before .before .if1) .left) ((c .before .before .before .before .before .before .before .before .before .before .parse-node) .kept .1 .0) g _ ((c .next-token2) .ensures) in
     let a = l .0 in
     let b = l .1 in
     omega arith
@@ -970,7 +970,7 @@ parse-group-loop-less t c =
 parse-group-loop-again : (t : ℕ) → parse-group-lts.Need-loop-again (parse-group-calls t) (parse-group-at t) parse-group.Post parse-group-Inv-loop parse-group-μ-loop
 parse-group-loop-again t c =
     let g = rw ((c .before .before .before .before .before .before .i) .given .1) at ((c .before .before .before .before .before .before .before .before .before .before .parse-node) .ensures) in
-    ((c .before .before .before .append) .kept .0 ∙ (c .before .before .before .before .before .before .before .before .before .before .parse-node) .kept .1 .0 ∙ (c .before .before .before .before .before .before .before .before .before .before .before .before .before .before .before .before .loop) .inv .0, group-turns (λ q. parseNode ((c .before .before .before .before .before .before .before .before .before .before .before .before .before .before .before .before .before .before .before .before .args) .depth-left) ((c .before .before .before .before .before .before .before .before .before .before .before .before .before .before .before .before .before .before .before .before .args) .s .now) q) ((c .before .before .before .before .before .before .before .before .before .before .before .before .before .before .before .before .before .before .before .before .args) .s .now) ((c .before .before .before .before .before .before .before .before .before .before .before .before .before .before .before .before .before .before .before .before .args) .end) ((c .before .before .before .before .before .before .before .before .before .before .before .before .before .before .before .before .loop) .inv .1) (node-keeps ((c .before .before .before .before .before .before .before .before .before .before .before .before .before .before .before .before .before .before .before .before .args) .depth-left) ((c .before .before .before .before .before .before .before .before .before .before .before .before .before .before .before .before .before .before .before .before .args) .s .now)) (sym ((c .before .before .before .before .before .before .before .before .before .before .before .before .before .before .before .cur-token-is) .ensures) ∙ (c .before .before .before .before .before .before .before .before .before .before .before .before .before .before .if1) .left) ((c .before .before .before .before .before .before .before .before .before .before .parse-node) .kept .1 .0) g _ _ _ ((c .before .before .before .append) .kept .0) (sym ((c .before .before .before .before .before .before .before .before .before .before .before .before .before .cur-token-is2) .ensures) ∙ (c .before .before .before .before .before .before .before .before .before .before .before .before .if2) .left) ((c .before .before .before .append) .ensures) ((c .next-token2) .ensures))
+    ((c .before .before .before .append) .kept .0 ∙ (c .before .before .before .before .before .before .before .before .before .before .parse-node) .kept .1 .0 ∙ (c .before .before .before .before .before .before .before .before .before .before .before .before .before .before .before .before .loop) .inv .0, group-turns (λ q. parseNode ((c .before .before .before .before .before .before .before .before .before .before .before .before .before .before .before .before .before .before .before .before .args) .depth) ((c .before .before .before .before .before .before .before .before .before .before .before .before .before .before .before .before .before .before .before .before .args) .s .now) q) ((c .before .before .before .before .before .before .before .before .before .before .before .before .before .before .before .before .before .before .before .before .args) .s .now) ((c .before .before .before .before .before .before .before .before .before .before .before .before .before .before .before .before .before .before .before .before .args) .end) ((c .before .before .before .before .before .before .before .before .before .before .before .before .before .before .before .before .loop) .inv .1) (node-keeps ((c .before .before .before .before .before .before .before .before .before .before .before .before .before .before .before .before .before .before .before .before .args) .depth) ((c .before .before .before .before .before .before .before .before .before .before .before .before .before .before .before .before .before .before .before .before .args) .s .now)) (sym ((c .before .before .before .before .before .before .before .before .before .before .before .before .before .before .before .cur-token-is) .ensures) ∙ (c .before .before .before .before .before .before .before .before .before .before .before .before .before .before .if1) .left) ((c .before .before .before .before .before .before .before .before .before .before .parse-node) .kept .1 .0) g _ _ _ ((c .before .before .before .append) .kept .0) (sym ((c .before .before .before .before .before .before .before .before .before .before .before .before .before .cur-token-is2) .ensures) ∙ (c .before .before .before .before .before .before .before .before .before .before .before .before .if2) .left) ((c .before .before .before .append) .ensures) ((c .next-token2) .ensures))
 
 parse-left-next-token-requires : (t : ℕ) → parse-left-lts.Need-next-token-requires (parse-left-calls t) (parse-left-at t) parse-left.Post
 parse-left-next-token-requires t c κs = (c .before .before .pre) .1 .0 .sound .peek .inside
@@ -1000,7 +1000,7 @@ parse-left-next-token-requires-2 : (t : ℕ) → parse-left-lts.Need-next-token-
 unfolding markNumber
 parse-left-next-token-requires-2 t c κs =
     let g = rw ((c .before .content) .given .1) at ((c .before .before .before .before .before .parse-group) .ensures) in
-    (group-ends ((c .before .before .before .before .before .parse-group) .kept .1 .0) Mark.Right (ends-next (ready-ends ((c .before .before .before .before .before .before .before .before .before .before .before .before .before .before .before .pre) .1 .0) ((c .before .before .before .before .before .before .before .before .before .before .before .before .before .before .before .pre) .1 .1)) ((c .before .before .before .before .before .before .before .before .before .before .before .before .next-token) .ensures)) (node-keeps ((c .before .before .before .before .before .before .before .before .before .before .before .before .before .before .before .args) .depth-left) ((c .before .before .before .before .before .before .before .before .before .before .before .before .before .before .before .args) .s .now)) (lit≤ tt) g) .sound .peek .inside
+    (group-ends ((c .before .before .before .before .before .parse-group) .kept .1 .0) Mark.Right (ends-next (ready-ends ((c .before .before .before .before .before .before .before .before .before .before .before .before .before .before .before .pre) .1 .0) ((c .before .before .before .before .before .before .before .before .before .before .before .before .before .before .before .pre) .1 .1)) ((c .before .before .before .before .before .before .before .before .before .before .before .before .next-token) .ensures)) (node-keeps ((c .before .before .before .before .before .before .before .before .before .before .before .before .before .before .before .args) .depth) ((c .before .before .before .before .before .before .before .before .before .before .before .before .before .before .before .args) .s .now)) (lit≤ tt) g) .sound .peek .inside
 
 parse-left-make-fenced-requires : (t : ℕ) → parse-left-lts.Need-make-fenced-requires (parse-left-calls t) (parse-left-at t) parse-left.Post
 unfolding markNumber
@@ -1008,11 +1008,11 @@ parse-left-make-fenced-requires t c κs =
     let g = rw ((c .before .before .before .content) .given .1) at ((c .before .before .before .before .before .before .before .parse-group) .ensures) in
     let b = g .below in
     let n = (next-made ((c .before .before .before .before .before .before .before .before .before .before .before .before .before .before .before .before .before .args) .s .now) _ ((c .before .next-token2) .ensures)) in
-    (starts-free 1 (ends-next (group-ends ((c .before .before .before .before .before .before .before .parse-group) .kept .1 .0) Mark.Right (ends-next (ready-ends ((c .before .before .before .before .before .before .before .before .before .before .before .before .before .before .before .before .before .pre) .1 .0) ((c .before .before .before .before .before .before .before .before .before .before .before .before .before .before .before .before .before .pre) .1 .1)) ((c .before .before .before .before .before .before .before .before .before .before .before .before .before .before .next-token) .ensures)) (node-keeps ((c .before .before .before .before .before .before .before .before .before .before .before .before .before .before .before .before .before .args) .depth-left) ((c .before .before .before .before .before .before .before .before .before .before .before .before .before .before .before .before .before .args) .s .now)) (lit≤ tt) g) ((c .before .next-token2) .ensures)) (omega arith), omega arith)
+    (starts-free 1 (ends-next (group-ends ((c .before .before .before .before .before .before .before .parse-group) .kept .1 .0) Mark.Right (ends-next (ready-ends ((c .before .before .before .before .before .before .before .before .before .before .before .before .before .before .before .before .before .pre) .1 .0) ((c .before .before .before .before .before .before .before .before .before .before .before .before .before .before .before .before .before .pre) .1 .1)) ((c .before .before .before .before .before .before .before .before .before .before .before .before .before .before .next-token) .ensures)) (node-keeps ((c .before .before .before .before .before .before .before .before .before .before .before .before .before .before .before .before .before .args) .depth) ((c .before .before .before .before .before .before .before .before .before .before .before .before .before .before .before .before .before .args) .s .now)) (lit≤ tt) g) ((c .before .next-token2) .ensures)) (omega arith), omega arith)
 
 parse-left-returns : (t : ℕ) → parse-left-lts.Need-returns (parse-left-calls t) (parse-left-at t) parse-left.Post
 parse-left-returns t c =
-    left-no (λ q. parseNode ((c .before .before .before .before .before .before .before .args) .depth-left) ((c .before .before .before .before .before .before .before .args) .s .now) q) ((c .before .before .before .before .before .before .before .args) .s .now) ((c .before .before .before .before .before .before .before .args) .p) ((c .before .before .before .before .next-token) .ensures) (fence-none _ (sym ((c .before .before .fence-of) .ensures) ∙ (c .enum-told) .given .1))
+    left-no (λ q. parseNode ((c .before .before .before .before .before .before .before .args) .depth) ((c .before .before .before .before .before .before .before .args) .s .now) q) ((c .before .before .before .before .before .before .before .args) .s .now) ((c .before .before .before .before .before .before .before .args) .p) ((c .before .before .before .before .next-token) .ensures) (fence-none _ (sym ((c .before .before .fence-of) .ensures) ∙ (c .enum-told) .given .1))
 
 parse-left-same-length : (t : ℕ) → parse-left-lts.Need-same-length (parse-left-calls t) (parse-left-at t) parse-left.Post
 parse-left-same-length t c = search needs
@@ -1020,7 +1020,7 @@ parse-left-same-length t c = search needs
 parse-left-returns-2 : (t : ℕ) → parse-left-lts.Need-returns-2 (parse-left-calls t) (parse-left-at t) parse-left.Post
 parse-left-returns-2 t c =
     let g = rw ((c .before .r) .given .1) at ((c .before .before .before .before .before .parse-group) .ensures) in
-    left-no-2 (λ q. parseNode ((c .before .before .before .before .before .before .before .before .before .before .before .before .before .before .before .args) .depth-left) ((c .before .before .before .before .before .before .before .before .before .before .before .before .before .before .before .args) .s .now) q) ((c .before .before .before .before .before .before .before .before .before .before .before .before .before .before .before .args) .s .now) ((c .before .before .before .before .before .before .before .before .before .before .before .before .before .before .before .args) .p) ((c .before .before .before .before .before .before .before .before .before .before .before .before .next-token) .ensures) (fence-some _ (sym ((c .before .before .before .before .before .before .before .before .before .before .fence-of) .ensures) ∙ (c .before .before .before .before .before .before .before .before .first) .given .1)) g
+    left-no-2 (λ q. parseNode ((c .before .before .before .before .before .before .before .before .before .before .before .before .before .before .before .args) .depth) ((c .before .before .before .before .before .before .before .before .before .before .before .before .before .before .before .args) .s .now) q) ((c .before .before .before .before .before .before .before .before .before .before .before .before .before .before .before .args) .s .now) ((c .before .before .before .before .before .before .before .before .before .before .before .before .before .before .before .args) .p) ((c .before .before .before .before .before .before .before .before .before .before .before .before .next-token) .ensures) (fence-some _ (sym ((c .before .before .before .before .before .before .before .before .before .before .fence-of) .ensures) ∙ (c .before .before .before .before .before .before .before .before .first) .given .1)) g
 
 parse-left-same-length-2 : (t : ℕ) → parse-left-lts.Need-same-length-2 (parse-left-calls t) (parse-left-at t) parse-left.Post
 parse-left-same-length-2 t c = search needs
@@ -1028,7 +1028,7 @@ parse-left-same-length-2 t c = search needs
 parse-left-returns-3 : (t : ℕ) → parse-left-lts.Need-returns-3 (parse-left-calls t) (parse-left-at t) parse-left.Post
 parse-left-returns-3 t c =
     let g = rw ((c .before .before .before .before .before .before .content) .given .1) at ((c .before .before .before .before .before .before .before .before .before .before .parse-group) .ensures) in
-    after-one _ _ ((c .before .before .before .before .before .before .before .before .before .before .before .before .before .before .before .before .before .before .before .before .args) .p) _ _ _ _ (next-made ((c .before .before .before .before .before .before .before .before .before .before .before .before .before .before .before .before .before .before .before .before .args) .s .now) ((c .before .before .before .before .before .before .before .before .before .before .before .before .before .before .before .before .before .before .before .before .args) .p) ((c .before .before .before .before .before .before .before .before .before .before .before .before .before .before .before .before .before .next-token) .ensures)) g _ _ _ _ ((c .before .before .make-fenced) .result) (next-made ((c .before .before .before .before .before .before .before .before .before .before .before .before .before .before .before .before .before .before .before .before .args) .s .now) _ ((c .before .before .before .before .next-token2) .ensures)) ((c .before .before .make-fenced) .ensures) (left-is (λ q. parseNode ((c .before .before .before .before .before .before .before .before .before .before .before .before .before .before .before .before .before .before .before .before .args) .depth-left) ((c .before .before .before .before .before .before .before .before .before .before .before .before .before .before .before .before .before .before .before .before .args) .s .now) q) ((c .before .before .before .before .before .before .before .before .before .before .before .before .before .before .before .before .before .before .before .before .args) .s .now) ((c .before .before .before .before .before .before .before .before .before .before .before .before .before .before .before .before .before .before .before .before .args) .p) ((c .before .before .before .before .before .before .before .before .before .before .before .before .before .before .before .before .before .next-token) .ensures) (fence-some _ (sym ((c .before .before .before .before .before .before .before .before .before .before .before .before .before .before .before .fence-of) .ensures) ∙ (c .before .before .before .before .before .before .before .before .before .before .before .before .before .first) .given .1)) (g .is) ((c .before .before .before .before .next-token2) .ensures))
+    after-one _ _ ((c .before .before .before .before .before .before .before .before .before .before .before .before .before .before .before .before .before .before .before .before .args) .p) _ _ _ _ (next-made ((c .before .before .before .before .before .before .before .before .before .before .before .before .before .before .before .before .before .before .before .before .args) .s .now) ((c .before .before .before .before .before .before .before .before .before .before .before .before .before .before .before .before .before .before .before .before .args) .p) ((c .before .before .before .before .before .before .before .before .before .before .before .before .before .before .before .before .before .next-token) .ensures)) g _ _ _ _ ((c .before .before .make-fenced) .result) (next-made ((c .before .before .before .before .before .before .before .before .before .before .before .before .before .before .before .before .before .before .before .before .args) .s .now) _ ((c .before .before .before .before .next-token2) .ensures)) ((c .before .before .make-fenced) .ensures) (left-is (λ q. parseNode ((c .before .before .before .before .before .before .before .before .before .before .before .before .before .before .before .before .before .before .before .before .args) .depth) ((c .before .before .before .before .before .before .before .before .before .before .before .before .before .before .before .before .before .before .before .before .args) .s .now) q) ((c .before .before .before .before .before .before .before .before .before .before .before .before .before .before .before .before .before .before .before .before .args) .s .now) ((c .before .before .before .before .before .before .before .before .before .before .before .before .before .before .before .before .before .before .before .before .args) .p) ((c .before .before .before .before .before .before .before .before .before .before .before .before .before .before .before .before .before .next-token) .ensures) (fence-some _ (sym ((c .before .before .before .before .before .before .before .before .before .before .before .before .before .before .before .fence-of) .ensures) ∙ (c .before .before .before .before .before .before .before .before .before .before .before .before .before .first) .given .1)) (g .is) ((c .before .before .before .before .next-token2) .ensures))
 
 parse-lim-peek-token-is-requires : (t : ℕ) → parse-lim-lts.Need-peek-token-is-requires (parse-lim-calls t) (parse-lim-at t) parse-lim.Post
 parse-lim-peek-token-is-requires t c κs = search needs
@@ -1042,7 +1042,7 @@ parse-lim-same-length t c = search needs
 
 parse-lim-returns : (t : ℕ) → parse-lim-lts.Need-returns (parse-lim-calls t) (parse-lim-at t) parse-lim.Post
 parse-lim-returns t c =
-    after-none _ _ ((c .before .before .before .before .before .before .before .before .args) .p) ((c .before .before .before .before .before .before .before .before .args) .p) _ _ ((c .before .before .make-leaf) .result) refl ((c .before .before .make-leaf) .ensures) (lim-alone (λ q. parseSingleNode ((c .before .before .before .before .before .before .before .before .args) .depth-left) ((c .before .before .before .before .before .before .before .before .args) .s .now) q) ((c .before .before .before .before .before .before .before .before .args) .s .now) ((c .before .before .before .before .before .before .before .before .args) .p) ((c .before .before .before .before .before .before .before .before .args) .t) (sym ((c .before .before .before .before .before .peek-token-is) .ensures) ∙ not-true _ ((c .before .before .before .before .if1) .taken)))
+    after-none _ _ ((c .before .before .before .before .before .before .before .before .args) .p) ((c .before .before .before .before .before .before .before .before .args) .p) _ _ ((c .before .before .make-leaf) .result) refl ((c .before .before .make-leaf) .ensures) (lim-alone (λ q. parseSingleNode ((c .before .before .before .before .before .before .before .before .args) .depth) ((c .before .before .before .before .before .before .before .before .args) .s .now) q) ((c .before .before .before .before .before .before .before .before .args) .s .now) ((c .before .before .before .before .before .before .before .before .args) .p) ((c .before .before .before .before .before .before .before .before .args) .t) (sym ((c .before .before .before .before .before .peek-token-is) .ensures) ∙ not-true _ ((c .before .before .before .before .if1) .taken)))
 
 parse-lim-next-token-requires : (t : ℕ) → parse-lim-lts.Need-next-token-requires (parse-lim-calls t) (parse-lim-at t) parse-lim.Post
 parse-lim-next-token-requires t c κs =
@@ -1068,7 +1068,7 @@ parse-lim-make-leaf-first-requires : (t : ℕ) → parse-lim-lts.Need-make-leaf-
 unfolding markNumber
 parse-lim-make-leaf-first-requires t c κs =
     let g = rw ((c .before .before .under) .given .1) at ((c .before .before .before .before .before .before .parse-single-node) .ensures) in
-    (ends-free 2 (node-ends ((c .before .before .before .before .before .before .parse-single-node) .kept .1 .0) 7 (ends-mark Mark.Underscore (ready-ends ((c .before .before .before .before .before .before .before .before .before .before .before .before .before .before .pre) .1 .0) ((c .before .before .before .before .before .before .before .before .before .before .before .before .before .before .pre) .1 .1)) (sym ((c .before .before .before .before .before .before .before .before .before .before .before .peek-token-is) .ensures) ∙ not-false _ ((c .before .before .before .before .before .before .before .before .before .before .if1) .left)) (lit≤ tt) ((c .before .before .before .before .before .before .before .before .before .next-token) .ensures) ((c .before .before .before .before .before .before .before .before .next-token2) .ensures)) (omega arith) (single-keeps ((c .before .before .before .before .before .before .before .before .before .before .before .before .before .before .args) .depth-left) ((c .before .before .before .before .before .before .before .before .before .before .before .before .before .before .args) .s .now)) g) (omega arith), tt, g .below)
+    (ends-free 2 (node-ends ((c .before .before .before .before .before .before .parse-single-node) .kept .1 .0) 7 (ends-mark Mark.Underscore (ready-ends ((c .before .before .before .before .before .before .before .before .before .before .before .before .before .before .pre) .1 .0) ((c .before .before .before .before .before .before .before .before .before .before .before .before .before .before .pre) .1 .1)) (sym ((c .before .before .before .before .before .before .before .before .before .before .before .peek-token-is) .ensures) ∙ not-false _ ((c .before .before .before .before .before .before .before .before .before .before .if1) .left)) (lit≤ tt) ((c .before .before .before .before .before .before .before .before .before .next-token) .ensures) ((c .before .before .before .before .before .before .before .before .next-token2) .ensures)) (omega arith) (single-keeps ((c .before .before .before .before .before .before .before .before .before .before .before .before .before .before .args) .depth) ((c .before .before .before .before .before .before .before .before .before .before .before .before .before .before .args) .s .now)) g) (omega arith), tt, g .below)
 
 parse-lim-same-length-2 : (t : ℕ) → parse-lim-lts.Need-same-length-2 (parse-lim-calls t) (parse-lim-at t) parse-lim.Post
 parse-lim-same-length-2 t c = search needs
@@ -1076,7 +1076,7 @@ parse-lim-same-length-2 t c = search needs
 parse-lim-returns-2 : (t : ℕ) → parse-lim-lts.Need-returns-2 (parse-lim-calls t) (parse-lim-at t) parse-lim.Post
 parse-lim-returns-2 t c =
     let g = rw ((c .before .r) .given .1) at ((c .before .before .before .before .before .parse-single-node) .ensures) in
-    lim-no (λ q. parseSingleNode ((c .before .before .before .before .before .before .before .before .before .before .before .before .before .args) .depth-left) ((c .before .before .before .before .before .before .before .before .before .before .before .before .before .args) .s .now) q) ((c .before .before .before .before .before .before .before .before .before .before .before .before .before .args) .s .now) ((c .before .before .before .before .before .before .before .before .before .before .before .before .before .args) .p) ((c .before .before .before .before .before .before .before .before .before .before .before .before .before .args) .t) (sym ((c .before .before .before .before .before .before .before .before .before .before .peek-token-is) .ensures) ∙ not-false _ ((c .before .before .before .before .before .before .before .before .before .if1) .left)) ((c .before .before .before .before .before .before .before .before .next-token) .ensures) ((c .before .before .before .before .before .before .before .next-token2) .ensures) g
+    lim-no (λ q. parseSingleNode ((c .before .before .before .before .before .before .before .before .before .before .before .before .before .args) .depth) ((c .before .before .before .before .before .before .before .before .before .before .before .before .before .args) .s .now) q) ((c .before .before .before .before .before .before .before .before .before .before .before .before .before .args) .s .now) ((c .before .before .before .before .before .before .before .before .before .before .before .before .before .args) .p) ((c .before .before .before .before .before .before .before .before .before .before .before .before .before .args) .t) (sym ((c .before .before .before .before .before .before .before .before .before .before .peek-token-is) .ensures) ∙ not-false _ ((c .before .before .before .before .before .before .before .before .before .if1) .left)) ((c .before .before .before .before .before .before .before .before .next-token) .ensures) ((c .before .before .before .before .before .before .before .next-token2) .ensures) g
 
 parse-lim-same-length-3 : (t : ℕ) → parse-lim-lts.Need-same-length-3 (parse-lim-calls t) (parse-lim-at t) parse-lim.Post
 parse-lim-same-length-3 t c = search needs
@@ -1084,7 +1084,7 @@ parse-lim-same-length-3 t c = search needs
 parse-lim-returns-3 : (t : ℕ) → parse-lim-lts.Need-returns-3 (parse-lim-calls t) (parse-lim-at t) parse-lim.Post
 parse-lim-returns-3 t c =
     let g = rw ((c .before .before .before .before .before .under) .given .1) at ((c .before .before .before .before .before .before .before .before .before .parse-single-node) .ensures) in
-    after-one _ _ ((c .before .before .before .before .before .before .before .before .before .before .before .before .before .before .before .before .before .args) .p) _ _ _ _ ((next-made ((c .before .before .before .before .before .before .before .before .before .before .before .before .before .before .before .before .before .args) .s .now) _ ((c .before .before .before .before .before .before .before .before .before .before .before .next-token2) .ensures)) ∙ (next-made ((c .before .before .before .before .before .before .before .before .before .before .before .before .before .before .before .before .before .args) .s .now) ((c .before .before .before .before .before .before .before .before .before .before .before .before .before .before .before .before .before .args) .p) ((c .before .before .before .before .before .before .before .before .before .before .before .before .next-token) .ensures))) g _ _ _ _ ((c .before .before .make-leaf-first) .result) refl ((c .before .before .make-leaf-first) .ensures) (lim-is (λ q. parseSingleNode ((c .before .before .before .before .before .before .before .before .before .before .before .before .before .before .before .before .before .args) .depth-left) ((c .before .before .before .before .before .before .before .before .before .before .before .before .before .before .before .before .before .args) .s .now) q) ((c .before .before .before .before .before .before .before .before .before .before .before .before .before .before .before .before .before .args) .s .now) ((c .before .before .before .before .before .before .before .before .before .before .before .before .before .before .before .before .before .args) .p) ((c .before .before .before .before .before .before .before .before .before .before .before .before .before .before .before .before .before .args) .t) (sym ((c .before .before .before .before .before .before .before .before .before .before .before .before .before .before .peek-token-is) .ensures) ∙ not-false _ ((c .before .before .before .before .before .before .before .before .before .before .before .before .before .if1) .left)) ((c .before .before .before .before .before .before .before .before .before .before .before .before .next-token) .ensures) ((c .before .before .before .before .before .before .before .before .before .before .before .next-token2) .ensures) (g .is))
+    after-one _ _ ((c .before .before .before .before .before .before .before .before .before .before .before .before .before .before .before .before .before .args) .p) _ _ _ _ ((next-made ((c .before .before .before .before .before .before .before .before .before .before .before .before .before .before .before .before .before .args) .s .now) _ ((c .before .before .before .before .before .before .before .before .before .before .before .next-token2) .ensures)) ∙ (next-made ((c .before .before .before .before .before .before .before .before .before .before .before .before .before .before .before .before .before .args) .s .now) ((c .before .before .before .before .before .before .before .before .before .before .before .before .before .before .before .before .before .args) .p) ((c .before .before .before .before .before .before .before .before .before .before .before .before .next-token) .ensures))) g _ _ _ _ ((c .before .before .make-leaf-first) .result) refl ((c .before .before .make-leaf-first) .ensures) (lim-is (λ q. parseSingleNode ((c .before .before .before .before .before .before .before .before .before .before .before .before .before .before .before .before .before .args) .depth) ((c .before .before .before .before .before .before .before .before .before .before .before .before .before .before .before .before .before .args) .s .now) q) ((c .before .before .before .before .before .before .before .before .before .before .before .before .before .before .before .before .before .args) .s .now) ((c .before .before .before .before .before .before .before .before .before .before .before .before .before .before .before .before .before .args) .p) ((c .before .before .before .before .before .before .before .before .before .before .before .before .before .before .before .before .before .args) .t) (sym ((c .before .before .before .before .before .before .before .before .before .before .before .before .before .before .peek-token-is) .ensures) ∙ not-false _ ((c .before .before .before .before .before .before .before .before .before .before .before .before .before .if1) .left)) ((c .before .before .before .before .before .before .before .before .before .before .before .before .next-token) .ensures) ((c .before .before .before .before .before .before .before .before .before .before .before .next-token2) .ensures) (g .is))
 
 parse-limits-script-of-requires : (t : ℕ) → parse-limits-lts.Need-script-of-requires (parse-limits-calls t) (parse-limits-at t) parse-limits.Post
 parse-limits-script-of-requires t c κs = search needs
@@ -1128,7 +1128,7 @@ parse-limits-peek-token-is-requires t c κs = search needs
 parse-limits-make-limit-requires : (t : ℕ) → parse-limits-lts.Need-make-limit-requires (parse-limits-calls t) (parse-limits-at t) parse-limits.Post
 parse-limits-make-limit-requires t c κs =
     let g = rw ((c .before .before .before .before .before .x) .given .1) at ((c .before .before .before .before .before .before .before .before .before .parse-single-node) .ensures) in
-    (ends-free 2 (node-ends ((c .before .before .before .before .before .before .before .before .before .parse-single-node) .kept .1 .0) 7 (ends-mark (scriptMark ((c .before .before .before .before .before .before .before .before .before .before .before .before .before .before .over) .given .0 .0)) (ready-ends ((c .before .before .before .before .before .before .before .before .before .before .before .before .before .before .before .before .before .before .before .before .pre) .1 .0) ((c .before .before .before .before .before .before .before .before .before .before .before .before .before .before .before .before .before .before .before .before .pre) .1 .1)) (script-mark _ ((c .before .before .before .before .before .before .before .before .before .before .before .before .before .before .over) .given .0 .0) (sym ((c .before .before .before .before .before .before .before .before .before .before .before .before .before .before .before .before .script-of) .ensures) ∙ (c .before .before .before .before .before .before .before .before .before .before .before .before .before .before .over) .given .1)) (script-byte ((c .before .before .before .before .before .before .before .before .before .before .before .before .before .before .over) .given .0 .0)) ((c .before .before .before .before .before .before .before .before .before .before .before .before .next-token) .ensures) ((c .before .before .before .before .before .before .before .before .before .before .before .next-token2) .ensures)) (omega arith) (single-keeps ((c .before .before .before .before .before .before .before .before .before .before .before .before .before .before .before .before .before .before .before .before .args) .depth-left) ((c .before .before .before .before .before .before .before .before .before .before .before .before .before .before .before .before .before .before .before .before .args) .s .now)) g) (omega arith), g .below)
+    (ends-free 2 (node-ends ((c .before .before .before .before .before .before .before .before .before .parse-single-node) .kept .1 .0) 7 (ends-mark (scriptMark ((c .before .before .before .before .before .before .before .before .before .before .before .before .before .before .over) .given .0 .0)) (ready-ends ((c .before .before .before .before .before .before .before .before .before .before .before .before .before .before .before .before .before .before .before .before .pre) .1 .0) ((c .before .before .before .before .before .before .before .before .before .before .before .before .before .before .before .before .before .before .before .before .pre) .1 .1)) (script-mark _ ((c .before .before .before .before .before .before .before .before .before .before .before .before .before .before .over) .given .0 .0) (sym ((c .before .before .before .before .before .before .before .before .before .before .before .before .before .before .before .before .script-of) .ensures) ∙ (c .before .before .before .before .before .before .before .before .before .before .before .before .before .before .over) .given .1)) (script-byte ((c .before .before .before .before .before .before .before .before .before .before .before .before .before .before .over) .given .0 .0)) ((c .before .before .before .before .before .before .before .before .before .before .before .before .next-token) .ensures) ((c .before .before .before .before .before .before .before .before .before .before .before .next-token2) .ensures)) (omega arith) (single-keeps ((c .before .before .before .before .before .before .before .before .before .before .before .before .before .before .before .before .before .before .before .before .args) .depth) ((c .before .before .before .before .before .before .before .before .before .before .before .before .before .before .before .before .before .before .before .before .args) .s .now)) g) (omega arith), g .below)
 
 parse-limits-same-length : (t : ℕ) → parse-limits-lts.Need-same-length (parse-limits-calls t) (parse-limits-at t) parse-limits.Post
 parse-limits-same-length t c = search needs
@@ -1136,24 +1136,24 @@ parse-limits-same-length t c = search needs
 parse-limits-returns : (t : ℕ) → parse-limits-lts.Need-returns (parse-limits-calls t) (parse-limits-at t) parse-limits.Post
 parse-limits-returns t c =
     let g = rw ((c .before .before .before .before .before .before .before .before .x) .given .1) at ((c .before .before .before .before .before .before .before .before .before .before .before .before .parse-single-node) .ensures) in
-    after-one _ _ ((c .before .before .before .before .before .before .before .before .before .before .before .before .before .before .before .before .before .before .before .before .before .before .before .args) .p) _ _ _ _ ((next-made ((c .before .before .before .before .before .before .before .before .before .before .before .before .before .before .before .before .before .before .before .before .before .before .before .args) .s .now) _ ((c .before .before .before .before .before .before .before .before .before .before .before .before .before .before .next-token2) .ensures)) ∙ (next-made ((c .before .before .before .before .before .before .before .before .before .before .before .before .before .before .before .before .before .before .before .before .before .before .before .args) .s .now) ((c .before .before .before .before .before .before .before .before .before .before .before .before .before .before .before .before .before .before .before .before .before .before .before .args) .p) ((c .before .before .before .before .before .before .before .before .before .before .before .before .before .before .before .next-token) .ensures))) g _ _ _ _ ((c .before .before .make-limit) .result) refl ((c .before .before .make-limit) .ensures) (limit-is (λ q. parseSingleNode ((c .before .before .before .before .before .before .before .before .before .before .before .before .before .before .before .before .before .before .before .before .before .before .before .args) .depth-left) ((c .before .before .before .before .before .before .before .before .before .before .before .before .before .before .before .before .before .before .before .before .before .before .before .args) .s .now) q) ((c .before .before .before .before .before .before .before .before .before .before .before .before .before .before .before .before .before .before .before .before .before .before .before .args) .s .now) ((c .before .before .before .before .before .before .before .before .before .before .before .before .before .before .before .before .before .before .before .before .before .before .before .args) .k) ((c .before .before .before .before .before .before .before .before .before .before .before .before .before .before .before .before .before .before .before .before .before .before .before .args) .p) ((c .before .before .before .before .before .before .before .before .before .before .before .before .before .before .before .next-token) .ensures) ((c .before .before .before .before .before .before .before .before .before .before .before .before .before .before .next-token2) .ensures) (g .is) ((c .before .before .before .before .before .before .before .before .before .before .before .before .before .before .before .before .before .over) .given .0 .0) (sym ((c .before .before .before .before .before .before .before .before .before .before .before .before .before .before .before .before .before .before .before .script-of) .ensures) ∙ (c .before .before .before .before .before .before .before .before .before .before .before .before .before .before .before .before .before .over) .given .1) (rw ((c .before .before .before .before .before .before .other-limit) .ensures) at (sym ((c .before .before .before .before .before .peek-token-is) .ensures) ∙ not-true _ ((c .before .before .before .before .if1) .taken))))
+    after-one _ _ ((c .before .before .before .before .before .before .before .before .before .before .before .before .before .before .before .before .before .before .before .before .before .before .before .args) .p) _ _ _ _ ((next-made ((c .before .before .before .before .before .before .before .before .before .before .before .before .before .before .before .before .before .before .before .before .before .before .before .args) .s .now) _ ((c .before .before .before .before .before .before .before .before .before .before .before .before .before .before .next-token2) .ensures)) ∙ (next-made ((c .before .before .before .before .before .before .before .before .before .before .before .before .before .before .before .before .before .before .before .before .before .before .before .args) .s .now) ((c .before .before .before .before .before .before .before .before .before .before .before .before .before .before .before .before .before .before .before .before .before .before .before .args) .p) ((c .before .before .before .before .before .before .before .before .before .before .before .before .before .before .before .next-token) .ensures))) g _ _ _ _ ((c .before .before .make-limit) .result) refl ((c .before .before .make-limit) .ensures) (limit-is (λ q. parseSingleNode ((c .before .before .before .before .before .before .before .before .before .before .before .before .before .before .before .before .before .before .before .before .before .before .before .args) .depth) ((c .before .before .before .before .before .before .before .before .before .before .before .before .before .before .before .before .before .before .before .before .before .before .before .args) .s .now) q) ((c .before .before .before .before .before .before .before .before .before .before .before .before .before .before .before .before .before .before .before .before .before .before .before .args) .s .now) ((c .before .before .before .before .before .before .before .before .before .before .before .before .before .before .before .before .before .before .before .before .before .before .before .args) .k) ((c .before .before .before .before .before .before .before .before .before .before .before .before .before .before .before .before .before .before .before .before .before .before .before .args) .p) ((c .before .before .before .before .before .before .before .before .before .before .before .before .before .before .before .next-token) .ensures) ((c .before .before .before .before .before .before .before .before .before .before .before .before .before .before .next-token2) .ensures) (g .is) ((c .before .before .before .before .before .before .before .before .before .before .before .before .before .before .before .before .before .over) .given .0 .0) (sym ((c .before .before .before .before .before .before .before .before .before .before .before .before .before .before .before .before .before .before .before .script-of) .ensures) ∙ (c .before .before .before .before .before .before .before .before .before .before .before .before .before .before .before .before .before .over) .given .1) (rw ((c .before .before .before .before .before .before .other-limit) .ensures) at (sym ((c .before .before .before .before .before .peek-token-is) .ensures) ∙ not-true _ ((c .before .before .before .before .if1) .taken))))
 
 parse-limits-next-token-requires-3 : (t : ℕ) → parse-limits-lts.Need-next-token-requires-3 (parse-limits-calls t) (parse-limits-at t) parse-limits.Post
 parse-limits-next-token-requires-3 t c κs =
     let g = rw ((c .before .before .before .before .x) .given .1) at ((c .before .before .before .before .before .before .before .before .parse-single-node) .ensures) in
-    (node-ends ((c .before .before .before .before .before .before .before .before .parse-single-node) .kept .1 .0) 7 (ends-mark (scriptMark ((c .before .before .before .before .before .before .before .before .before .before .before .before .before .over) .given .0 .0)) (ready-ends ((c .before .before .before .before .before .before .before .before .before .before .before .before .before .before .before .before .before .before .before .pre) .1 .0) ((c .before .before .before .before .before .before .before .before .before .before .before .before .before .before .before .before .before .before .before .pre) .1 .1)) (script-mark _ ((c .before .before .before .before .before .before .before .before .before .before .before .before .before .over) .given .0 .0) (sym ((c .before .before .before .before .before .before .before .before .before .before .before .before .before .before .before .script-of) .ensures) ∙ (c .before .before .before .before .before .before .before .before .before .before .before .before .before .over) .given .1)) (script-byte ((c .before .before .before .before .before .before .before .before .before .before .before .before .before .over) .given .0 .0)) ((c .before .before .before .before .before .before .before .before .before .before .before .next-token) .ensures) ((c .before .before .before .before .before .before .before .before .before .before .next-token2) .ensures)) (omega arith) (single-keeps ((c .before .before .before .before .before .before .before .before .before .before .before .before .before .before .before .before .before .before .before .args) .depth-left) ((c .before .before .before .before .before .before .before .before .before .before .before .before .before .before .before .before .before .before .before .args) .s .now)) g) .sound .peek .inside
+    (node-ends ((c .before .before .before .before .before .before .before .before .parse-single-node) .kept .1 .0) 7 (ends-mark (scriptMark ((c .before .before .before .before .before .before .before .before .before .before .before .before .before .over) .given .0 .0)) (ready-ends ((c .before .before .before .before .before .before .before .before .before .before .before .before .before .before .before .before .before .before .before .pre) .1 .0) ((c .before .before .before .before .before .before .before .before .before .before .before .before .before .before .before .before .before .before .before .pre) .1 .1)) (script-mark _ ((c .before .before .before .before .before .before .before .before .before .before .before .before .before .over) .given .0 .0) (sym ((c .before .before .before .before .before .before .before .before .before .before .before .before .before .before .before .script-of) .ensures) ∙ (c .before .before .before .before .before .before .before .before .before .before .before .before .before .over) .given .1)) (script-byte ((c .before .before .before .before .before .before .before .before .before .before .before .before .before .over) .given .0 .0)) ((c .before .before .before .before .before .before .before .before .before .before .before .next-token) .ensures) ((c .before .before .before .before .before .before .before .before .before .before .next-token2) .ensures)) (omega arith) (single-keeps ((c .before .before .before .before .before .before .before .before .before .before .before .before .before .before .before .before .before .before .before .args) .depth) ((c .before .before .before .before .before .before .before .before .before .before .before .before .before .before .before .before .before .before .before .args) .s .now)) g) .sound .peek .inside
 
 parse-limits-next-token-requires-4 : (t : ℕ) → parse-limits-lts.Need-next-token-requires-4 (parse-limits-calls t) (parse-limits-at t) parse-limits.Post
 parse-limits-next-token-requires-4 t c κs =
     let g = rw ((c .before .before .before .before .before .x) .given .1) at ((c .before .before .before .before .before .before .before .before .before .parse-single-node) .ensures) in
-    (ends-next (node-ends ((c .before .before .before .before .before .before .before .before .before .parse-single-node) .kept .1 .0) 7 (ends-mark (scriptMark ((c .before .before .before .before .before .before .before .before .before .before .before .before .before .before .over) .given .0 .0)) (ready-ends ((c .before .before .before .before .before .before .before .before .before .before .before .before .before .before .before .before .before .before .before .before .pre) .1 .0) ((c .before .before .before .before .before .before .before .before .before .before .before .before .before .before .before .before .before .before .before .before .pre) .1 .1)) (script-mark _ ((c .before .before .before .before .before .before .before .before .before .before .before .before .before .before .over) .given .0 .0) (sym ((c .before .before .before .before .before .before .before .before .before .before .before .before .before .before .before .before .script-of) .ensures) ∙ (c .before .before .before .before .before .before .before .before .before .before .before .before .before .before .over) .given .1)) (script-byte ((c .before .before .before .before .before .before .before .before .before .before .before .before .before .before .over) .given .0 .0)) ((c .before .before .before .before .before .before .before .before .before .before .before .before .next-token) .ensures) ((c .before .before .before .before .before .before .before .before .before .before .before .next-token2) .ensures)) (omega arith) (single-keeps ((c .before .before .before .before .before .before .before .before .before .before .before .before .before .before .before .before .before .before .before .before .args) .depth-left) ((c .before .before .before .before .before .before .before .before .before .before .before .before .before .before .before .before .before .before .before .before .args) .s .now)) g) ((c .next-token3) .ensures)) .sound .peek .inside
+    (ends-next (node-ends ((c .before .before .before .before .before .before .before .before .before .parse-single-node) .kept .1 .0) 7 (ends-mark (scriptMark ((c .before .before .before .before .before .before .before .before .before .before .before .before .before .before .over) .given .0 .0)) (ready-ends ((c .before .before .before .before .before .before .before .before .before .before .before .before .before .before .before .before .before .before .before .before .pre) .1 .0) ((c .before .before .before .before .before .before .before .before .before .before .before .before .before .before .before .before .before .before .before .before .pre) .1 .1)) (script-mark _ ((c .before .before .before .before .before .before .before .before .before .before .before .before .before .before .over) .given .0 .0) (sym ((c .before .before .before .before .before .before .before .before .before .before .before .before .before .before .before .before .script-of) .ensures) ∙ (c .before .before .before .before .before .before .before .before .before .before .before .before .before .before .over) .given .1)) (script-byte ((c .before .before .before .before .before .before .before .before .before .before .before .before .before .before .over) .given .0 .0)) ((c .before .before .before .before .before .before .before .before .before .before .before .before .next-token) .ensures) ((c .before .before .before .before .before .before .before .before .before .before .before .next-token2) .ensures)) (omega arith) (single-keeps ((c .before .before .before .before .before .before .before .before .before .before .before .before .before .before .before .before .before .before .before .before .args) .depth) ((c .before .before .before .before .before .before .before .before .before .before .before .before .before .before .before .before .before .before .before .before .args) .s .now)) g) ((c .next-token3) .ensures)) .sound .peek .inside
 
 parse-limits-parse-single-node-requires-2 :
     (t : ℕ) → parse-limits-lts.Need-parse-single-node-requires-2 (parse-limits-calls t) (parse-limits-at t) parse-limits.Post
 parse-limits-parse-single-node-requires-2 t c κs =
     let m = (c .before .before .before .before .before .before .before .before .before .before .before .before .before .before .before .before .before .before .before .before .before .before .pre) .0 in
     let g = rw ((c .before .before .before .before .before .before .before .x) .given .1) at ((c .before .before .before .before .before .before .before .before .before .before .before .parse-single-node) .ensures) in
-    (omega arith, starts-ready (ends-mark (otherLimit ((c .before .before .before .before .before .before .before .before .before .before .before .before .before .before .before .before .over) .given .0 .0)) (node-ends ((c .before .before .before .before .before .before .before .before .before .before .before .parse-single-node) .kept .1 .0) 7 (ends-mark (scriptMark ((c .before .before .before .before .before .before .before .before .before .before .before .before .before .before .before .before .over) .given .0 .0)) (ready-ends ((c .before .before .before .before .before .before .before .before .before .before .before .before .before .before .before .before .before .before .before .before .before .before .pre) .1 .0) ((c .before .before .before .before .before .before .before .before .before .before .before .before .before .before .before .before .before .before .before .before .before .before .pre) .1 .1)) (script-mark _ ((c .before .before .before .before .before .before .before .before .before .before .before .before .before .before .before .before .over) .given .0 .0) (sym ((c .before .before .before .before .before .before .before .before .before .before .before .before .before .before .before .before .before .before .script-of) .ensures) ∙ (c .before .before .before .before .before .before .before .before .before .before .before .before .before .before .before .before .over) .given .1)) (script-byte ((c .before .before .before .before .before .before .before .before .before .before .before .before .before .before .before .before .over) .given .0 .0)) ((c .before .before .before .before .before .before .before .before .before .before .before .before .before .before .next-token) .ensures) ((c .before .before .before .before .before .before .before .before .before .before .before .before .before .next-token2) .ensures)) (omega arith) (single-keeps ((c .before .before .before .before .before .before .before .before .before .before .before .before .before .before .before .before .before .before .before .before .before .before .args) .depth-left) ((c .before .before .before .before .before .before .before .before .before .before .before .before .before .before .before .before .before .before .before .before .before .before .args) .s .now)) g) (rw ((c .before .before .before .before .before .other-limit) .ensures) at (sym ((c .before .before .before .before .peek-token-is) .ensures) ∙ not-false _ ((c .before .before .before .if1) .left))) (other-byte ((c .before .before .before .before .before .before .before .before .before .before .before .before .before .before .before .before .over) .given .0 .0)) ((c .before .before .next-token3) .ensures) ((c .before .next-token4) .ensures)) (omega arith))
+    (omega arith, starts-ready (ends-mark (otherLimit ((c .before .before .before .before .before .before .before .before .before .before .before .before .before .before .before .before .over) .given .0 .0)) (node-ends ((c .before .before .before .before .before .before .before .before .before .before .before .parse-single-node) .kept .1 .0) 7 (ends-mark (scriptMark ((c .before .before .before .before .before .before .before .before .before .before .before .before .before .before .before .before .over) .given .0 .0)) (ready-ends ((c .before .before .before .before .before .before .before .before .before .before .before .before .before .before .before .before .before .before .before .before .before .before .pre) .1 .0) ((c .before .before .before .before .before .before .before .before .before .before .before .before .before .before .before .before .before .before .before .before .before .before .pre) .1 .1)) (script-mark _ ((c .before .before .before .before .before .before .before .before .before .before .before .before .before .before .before .before .over) .given .0 .0) (sym ((c .before .before .before .before .before .before .before .before .before .before .before .before .before .before .before .before .before .before .script-of) .ensures) ∙ (c .before .before .before .before .before .before .before .before .before .before .before .before .before .before .before .before .over) .given .1)) (script-byte ((c .before .before .before .before .before .before .before .before .before .before .before .before .before .before .before .before .over) .given .0 .0)) ((c .before .before .before .before .before .before .before .before .before .before .before .before .before .before .next-token) .ensures) ((c .before .before .before .before .before .before .before .before .before .before .before .before .before .next-token2) .ensures)) (omega arith) (single-keeps ((c .before .before .before .before .before .before .before .before .before .before .before .before .before .before .before .before .before .before .before .before .before .before .args) .depth) ((c .before .before .before .before .before .before .before .before .before .before .before .before .before .before .before .before .before .before .before .before .before .before .args) .s .now)) g) (rw ((c .before .before .before .before .before .other-limit) .ensures) at (sym ((c .before .before .before .before .peek-token-is) .ensures) ∙ not-false _ ((c .before .before .before .if1) .left))) (other-byte ((c .before .before .before .before .before .before .before .before .before .before .before .before .before .before .before .before .over) .given .0 .0)) ((c .before .before .next-token3) .ensures) ((c .before .next-token4) .ensures)) (omega arith))
 
 parse-limits-enum-known-r-2 : (t : ℕ) → parse-limits-lts.Need-enum-known-r-2 (parse-limits-calls t) (parse-limits-at t) parse-limits.Post
 parse-limits-enum-known-r-2 t c = search needs
@@ -1165,14 +1165,14 @@ parse-limits-make-limits-requires : (t : ℕ) → parse-limits-lts.Need-make-lim
 parse-limits-make-limits-requires t c κs =
     let g = rw ((c .before .before .before .before .before .before .before .before .before .before .before .before .before .before .x) .given .1) at ((c .before .before .before .before .before .before .before .before .before .before .before .before .before .before .before .before .before .before .parse-single-node) .ensures) in
     let h = rw ((c .before .before .y) .given .1) at ((c .before .before .before .before .before .before .parse-single-node2) .ensures) in
-    (ends-free 2 (node-ends ((c .before .before .before .before .before .before .parse-single-node2) .kept .1 .0) 8 (ends-mark (otherLimit ((c .before .before .before .before .before .before .before .before .before .before .before .before .before .before .before .before .before .before .before .before .before .before .before .over) .given .0 .0)) (node-ends ((c .before .before .before .before .before .before .before .before .before .before .before .before .before .before .before .before .before .before .parse-single-node) .kept .1 .0) 7 (ends-mark (scriptMark ((c .before .before .before .before .before .before .before .before .before .before .before .before .before .before .before .before .before .before .before .before .before .before .before .over) .given .0 .0)) (ready-ends ((c .before .before .before .before .before .before .before .before .before .before .before .before .before .before .before .before .before .before .before .before .before .before .before .before .before .before .before .before .before .pre) .1 .0) ((c .before .before .before .before .before .before .before .before .before .before .before .before .before .before .before .before .before .before .before .before .before .before .before .before .before .before .before .before .before .pre) .1 .1)) (script-mark _ ((c .before .before .before .before .before .before .before .before .before .before .before .before .before .before .before .before .before .before .before .before .before .before .before .over) .given .0 .0) (sym ((c .before .before .before .before .before .before .before .before .before .before .before .before .before .before .before .before .before .before .before .before .before .before .before .before .before .script-of) .ensures) ∙ (c .before .before .before .before .before .before .before .before .before .before .before .before .before .before .before .before .before .before .before .before .before .before .before .over) .given .1)) (script-byte ((c .before .before .before .before .before .before .before .before .before .before .before .before .before .before .before .before .before .before .before .before .before .before .before .over) .given .0 .0)) ((c .before .before .before .before .before .before .before .before .before .before .before .before .before .before .before .before .before .before .before .before .before .next-token) .ensures) ((c .before .before .before .before .before .before .before .before .before .before .before .before .before .before .before .before .before .before .before .before .next-token2) .ensures)) (omega arith) (single-keeps ((c .before .before .before .before .before .before .before .before .before .before .before .before .before .before .before .before .before .before .before .before .before .before .before .before .before .before .before .before .before .args) .depth-left) ((c .before .before .before .before .before .before .before .before .before .before .before .before .before .before .before .before .before .before .before .before .before .before .before .before .before .before .before .before .before .args) .s .now)) g) (rw ((c .before .before .before .before .before .before .before .before .before .before .before .before .other-limit) .ensures) at (sym ((c .before .before .before .before .before .before .before .before .before .before .before .peek-token-is) .ensures) ∙ not-false _ ((c .before .before .before .before .before .before .before .before .before .before .if1) .left))) (other-byte ((c .before .before .before .before .before .before .before .before .before .before .before .before .before .before .before .before .before .before .before .before .before .before .before .over) .given .0 .0)) ((c .before .before .before .before .before .before .before .before .before .next-token3) .ensures) ((c .before .before .before .before .before .before .before .before .next-token4) .ensures)) (omega arith) (single-keeps ((c .before .before .before .before .before .before .before .before .before .before .before .before .before .before .before .before .before .before .before .before .before .before .before .before .before .before .before .before .before .args) .depth-left) ((c .before .before .before .before .before .before .before .before .before .before .before .before .before .before .before .before .before .before .before .before .before .before .before .before .before .before .before .before .before .args) .s .now)) h) (omega arith), first-below _ _ ((c .before .before .before .before .before .before .before .before .before .before .before .before .before .before .before .before .before .before .before .before .before .before .before .before .before .before .before .before .before .args) .p) _ _ _ _ ((next-made ((c .before .before .before .before .before .before .before .before .before .before .before .before .before .before .before .before .before .before .before .before .before .before .before .before .before .before .before .before .before .args) .s .now) _ ((c .before .before .before .before .before .before .before .before .before .before .before .before .before .before .before .before .before .before .before .before .next-token2) .ensures)) ∙ (next-made ((c .before .before .before .before .before .before .before .before .before .before .before .before .before .before .before .before .before .before .before .before .before .before .before .before .before .before .before .before .before .args) .s .now) ((c .before .before .before .before .before .before .before .before .before .before .before .before .before .before .before .before .before .before .before .before .before .before .before .before .before .before .before .before .before .args) .p) ((c .before .before .before .before .before .before .before .before .before .before .before .before .before .before .before .before .before .before .before .before .before .next-token) .ensures))) g _ _ _ _ _ ((next-made ((c .before .before .before .before .before .before .before .before .before .before .before .before .before .before .before .before .before .before .before .before .before .before .before .before .before .before .before .before .before .args) .s .now) _ ((c .before .before .before .before .before .before .before .before .next-token4) .ensures)) ∙ (next-made ((c .before .before .before .before .before .before .before .before .before .before .before .before .before .before .before .before .before .before .before .before .before .before .before .before .before .before .before .before .before .args) .s .now) _ ((c .before .before .before .before .before .before .before .before .before .next-token3) .ensures))) h, h .below)
+    (ends-free 2 (node-ends ((c .before .before .before .before .before .before .parse-single-node2) .kept .1 .0) 8 (ends-mark (otherLimit ((c .before .before .before .before .before .before .before .before .before .before .before .before .before .before .before .before .before .before .before .before .before .before .before .over) .given .0 .0)) (node-ends ((c .before .before .before .before .before .before .before .before .before .before .before .before .before .before .before .before .before .before .parse-single-node) .kept .1 .0) 7 (ends-mark (scriptMark ((c .before .before .before .before .before .before .before .before .before .before .before .before .before .before .before .before .before .before .before .before .before .before .before .over) .given .0 .0)) (ready-ends ((c .before .before .before .before .before .before .before .before .before .before .before .before .before .before .before .before .before .before .before .before .before .before .before .before .before .before .before .before .before .pre) .1 .0) ((c .before .before .before .before .before .before .before .before .before .before .before .before .before .before .before .before .before .before .before .before .before .before .before .before .before .before .before .before .before .pre) .1 .1)) (script-mark _ ((c .before .before .before .before .before .before .before .before .before .before .before .before .before .before .before .before .before .before .before .before .before .before .before .over) .given .0 .0) (sym ((c .before .before .before .before .before .before .before .before .before .before .before .before .before .before .before .before .before .before .before .before .before .before .before .before .before .script-of) .ensures) ∙ (c .before .before .before .before .before .before .before .before .before .before .before .before .before .before .before .before .before .before .before .before .before .before .before .over) .given .1)) (script-byte ((c .before .before .before .before .before .before .before .before .before .before .before .before .before .before .before .before .before .before .before .before .before .before .before .over) .given .0 .0)) ((c .before .before .before .before .before .before .before .before .before .before .before .before .before .before .before .before .before .before .before .before .before .next-token) .ensures) ((c .before .before .before .before .before .before .before .before .before .before .before .before .before .before .before .before .before .before .before .before .next-token2) .ensures)) (omega arith) (single-keeps ((c .before .before .before .before .before .before .before .before .before .before .before .before .before .before .before .before .before .before .before .before .before .before .before .before .before .before .before .before .before .args) .depth) ((c .before .before .before .before .before .before .before .before .before .before .before .before .before .before .before .before .before .before .before .before .before .before .before .before .before .before .before .before .before .args) .s .now)) g) (rw ((c .before .before .before .before .before .before .before .before .before .before .before .before .other-limit) .ensures) at (sym ((c .before .before .before .before .before .before .before .before .before .before .before .peek-token-is) .ensures) ∙ not-false _ ((c .before .before .before .before .before .before .before .before .before .before .if1) .left))) (other-byte ((c .before .before .before .before .before .before .before .before .before .before .before .before .before .before .before .before .before .before .before .before .before .before .before .over) .given .0 .0)) ((c .before .before .before .before .before .before .before .before .before .next-token3) .ensures) ((c .before .before .before .before .before .before .before .before .next-token4) .ensures)) (omega arith) (single-keeps ((c .before .before .before .before .before .before .before .before .before .before .before .before .before .before .before .before .before .before .before .before .before .before .before .before .before .before .before .before .before .args) .depth) ((c .before .before .before .before .before .before .before .before .before .before .before .before .before .before .before .before .before .before .before .before .before .before .before .before .before .before .before .before .before .args) .s .now)) h) (omega arith), first-below _ _ ((c .before .before .before .before .before .before .before .before .before .before .before .before .before .before .before .before .before .before .before .before .before .before .before .before .before .before .before .before .before .args) .p) _ _ _ _ ((next-made ((c .before .before .before .before .before .before .before .before .before .before .before .before .before .before .before .before .before .before .before .before .before .before .before .before .before .before .before .before .before .args) .s .now) _ ((c .before .before .before .before .before .before .before .before .before .before .before .before .before .before .before .before .before .before .before .before .next-token2) .ensures)) ∙ (next-made ((c .before .before .before .before .before .before .before .before .before .before .before .before .before .before .before .before .before .before .before .before .before .before .before .before .before .before .before .before .before .args) .s .now) ((c .before .before .before .before .before .before .before .before .before .before .before .before .before .before .before .before .before .before .before .before .before .before .before .before .before .before .before .before .before .args) .p) ((c .before .before .before .before .before .before .before .before .before .before .before .before .before .before .before .before .before .before .before .before .before .next-token) .ensures))) g _ _ _ _ _ ((next-made ((c .before .before .before .before .before .before .before .before .before .before .before .before .before .before .before .before .before .before .before .before .before .before .before .before .before .before .before .before .before .args) .s .now) _ ((c .before .before .before .before .before .before .before .before .next-token4) .ensures)) ∙ (next-made ((c .before .before .before .before .before .before .before .before .before .before .before .before .before .before .before .before .before .before .before .before .before .before .before .before .before .before .before .before .before .args) .s .now) _ ((c .before .before .before .before .before .before .before .before .before .next-token3) .ensures))) h, h .below)
 
 parse-limits-same-length-2 : (t : ℕ) → parse-limits-lts.Need-same-length-2 (parse-limits-calls t) (parse-limits-at t) parse-limits.Post
 parse-limits-same-length-2 t c = search needs
 
 parse-limits-returns-2 : (t : ℕ) → parse-limits-lts.Need-returns-2 (parse-limits-calls t) (parse-limits-at t) parse-limits.Post
 parse-limits-returns-2 t c =
-    after-none _ _ ((c .before .before .before .before .before .before .before .before .before .before .args) .p) ((c .before .before .before .before .before .before .before .before .before .before .args) .p) _ _ ((c .before .before .make-alone) .result) refl ((c .before .before .make-alone) .ensures) (limits-alone (λ q. parseSingleNode ((c .before .before .before .before .before .before .before .before .before .before .args) .depth-left) ((c .before .before .before .before .before .before .before .before .before .before .args) .s .now) q) ((c .before .before .before .before .before .before .before .before .before .before .args) .s .now) ((c .before .before .before .before .before .before .before .before .before .before .args) .k) ((c .before .before .before .before .before .before .before .before .before .before .args) .p) (sym ((c .before .before .before .before .before .before .script-of) .ensures) ∙ (c .before .before .before .before .enum-told) .given .1))
+    after-none _ _ ((c .before .before .before .before .before .before .before .before .before .before .args) .p) ((c .before .before .before .before .before .before .before .before .before .before .args) .p) _ _ ((c .before .before .make-alone) .result) refl ((c .before .before .make-alone) .ensures) (limits-alone (λ q. parseSingleNode ((c .before .before .before .before .before .before .before .before .before .before .args) .depth) ((c .before .before .before .before .before .before .before .before .before .before .args) .s .now) q) ((c .before .before .before .before .before .before .before .before .before .before .args) .s .now) ((c .before .before .before .before .before .before .before .before .before .before .args) .k) ((c .before .before .before .before .before .before .before .before .before .before .args) .p) (sym ((c .before .before .before .before .before .before .script-of) .ensures) ∙ (c .before .before .before .before .enum-told) .given .1))
 
 parse-limits-same-length-3 : (t : ℕ) → parse-limits-lts.Need-same-length-3 (parse-limits-calls t) (parse-limits-at t) parse-limits.Post
 parse-limits-same-length-3 t c = search needs
@@ -1180,7 +1180,7 @@ parse-limits-same-length-3 t c = search needs
 parse-limits-returns-3 : (t : ℕ) → parse-limits-lts.Need-returns-3 (parse-limits-calls t) (parse-limits-at t) parse-limits.Post
 parse-limits-returns-3 t c =
     let g = rw ((c .before .r) .given .1) at ((c .before .before .before .before .before .parse-single-node) .ensures) in
-    limits-no (λ q. parseSingleNode ((c .before .before .before .before .before .before .before .before .before .before .before .before .before .before .before .before .args) .depth-left) ((c .before .before .before .before .before .before .before .before .before .before .before .before .before .before .before .before .args) .s .now) q) ((c .before .before .before .before .before .before .before .before .before .before .before .before .before .before .before .before .args) .s .now) ((c .before .before .before .before .before .before .before .before .before .before .before .before .before .before .before .before .args) .k) ((c .before .before .before .before .before .before .before .before .before .before .before .before .before .before .before .before .args) .p) ((c .before .before .before .before .before .before .before .before .next-token) .ensures) ((c .before .before .before .before .before .before .before .next-token2) .ensures) ((c .before .before .before .before .before .before .before .before .before .before .over) .given .0 .0) (sym ((c .before .before .before .before .before .before .before .before .before .before .before .before .script-of) .ensures) ∙ (c .before .before .before .before .before .before .before .before .before .before .over) .given .1) g
+    limits-no (λ q. parseSingleNode ((c .before .before .before .before .before .before .before .before .before .before .before .before .before .before .before .before .args) .depth) ((c .before .before .before .before .before .before .before .before .before .before .before .before .before .before .before .before .args) .s .now) q) ((c .before .before .before .before .before .before .before .before .before .before .before .before .before .before .before .before .args) .s .now) ((c .before .before .before .before .before .before .before .before .before .before .before .before .before .before .before .before .args) .k) ((c .before .before .before .before .before .before .before .before .before .before .before .before .before .before .before .before .args) .p) ((c .before .before .before .before .before .before .before .before .next-token) .ensures) ((c .before .before .before .before .before .before .before .next-token2) .ensures) ((c .before .before .before .before .before .before .before .before .before .before .over) .given .0 .0) (sym ((c .before .before .before .before .before .before .before .before .before .before .before .before .script-of) .ensures) ∙ (c .before .before .before .before .before .before .before .before .before .before .over) .given .1) g
 
 parse-limits-same-length-4 : (t : ℕ) → parse-limits-lts.Need-same-length-4 (parse-limits-calls t) (parse-limits-at t) parse-limits.Post
 parse-limits-same-length-4 t c =
@@ -1190,7 +1190,7 @@ parse-limits-returns-4 : (t : ℕ) → parse-limits-lts.Need-returns-4 (parse-li
 parse-limits-returns-4 t c =
     let g = rw ((c .before .before .before .before .before .before .before .before .before .before .before .before .before .x) .given .1) at ((c .before .before .before .before .before .before .before .before .before .before .before .before .before .before .before .before .before .parse-single-node) .ensures) in
     let h = rw ((c .before .r2) .given .1) at ((c .before .before .before .before .before .parse-single-node2) .ensures) in
-    limits-no-2 (λ q. parseSingleNode ((c .before .before .before .before .before .before .before .before .before .before .before .before .before .before .before .before .before .before .before .before .before .before .before .before .before .before .before .before .args) .depth-left) ((c .before .before .before .before .before .before .before .before .before .before .before .before .before .before .before .before .before .before .before .before .before .before .before .before .before .before .before .before .args) .s .now) q) ((c .before .before .before .before .before .before .before .before .before .before .before .before .before .before .before .before .before .before .before .before .before .before .before .before .before .before .before .before .args) .s .now) ((c .before .before .before .before .before .before .before .before .before .before .before .before .before .before .before .before .before .before .before .before .before .before .before .before .before .before .before .before .args) .k) ((c .before .before .before .before .before .before .before .before .before .before .before .before .before .before .before .before .before .before .before .before .before .before .before .before .before .before .before .before .args) .p) ((c .before .before .before .before .before .before .before .before .before .before .before .before .before .before .before .before .before .before .before .before .next-token) .ensures) ((c .before .before .before .before .before .before .before .before .before .before .before .before .before .before .before .before .before .before .before .next-token2) .ensures) (g .is) ((c .before .before .before .before .before .before .before .before .next-token3) .ensures) ((c .before .before .before .before .before .before .before .next-token4) .ensures) ((c .before .before .before .before .before .before .before .before .before .before .before .before .before .before .before .before .before .before .before .before .before .before .over) .given .0 .0) (sym ((c .before .before .before .before .before .before .before .before .before .before .before .before .before .before .before .before .before .before .before .before .before .before .before .before .script-of) .ensures) ∙ (c .before .before .before .before .before .before .before .before .before .before .before .before .before .before .before .before .before .before .before .before .before .before .over) .given .1) (rw ((c .before .before .before .before .before .before .before .before .before .before .before .other-limit) .ensures) at (sym ((c .before .before .before .before .before .before .before .before .before .before .peek-token-is) .ensures) ∙ not-false _ ((c .before .before .before .before .before .before .before .before .before .if1) .left))) h
+    limits-no-2 (λ q. parseSingleNode ((c .before .before .before .before .before .before .before .before .before .before .before .before .before .before .before .before .before .before .before .before .before .before .before .before .before .before .before .before .args) .depth) ((c .before .before .before .before .before .before .before .before .before .before .before .before .before .before .before .before .before .before .before .before .before .before .before .before .before .before .before .before .args) .s .now) q) ((c .before .before .before .before .before .before .before .before .before .before .before .before .before .before .before .before .before .before .before .before .before .before .before .before .before .before .before .before .args) .s .now) ((c .before .before .before .before .before .before .before .before .before .before .before .before .before .before .before .before .before .before .before .before .before .before .before .before .before .before .before .before .args) .k) ((c .before .before .before .before .before .before .before .before .before .before .before .before .before .before .before .before .before .before .before .before .before .before .before .before .before .before .before .before .args) .p) ((c .before .before .before .before .before .before .before .before .before .before .before .before .before .before .before .before .before .before .before .before .next-token) .ensures) ((c .before .before .before .before .before .before .before .before .before .before .before .before .before .before .before .before .before .before .before .next-token2) .ensures) (g .is) ((c .before .before .before .before .before .before .before .before .next-token3) .ensures) ((c .before .before .before .before .before .before .before .next-token4) .ensures) ((c .before .before .before .before .before .before .before .before .before .before .before .before .before .before .before .before .before .before .before .before .before .before .over) .given .0 .0) (sym ((c .before .before .before .before .before .before .before .before .before .before .before .before .before .before .before .before .before .before .before .before .before .before .before .before .script-of) .ensures) ∙ (c .before .before .before .before .before .before .before .before .before .before .before .before .before .before .before .before .before .before .before .before .before .before .over) .given .1) (rw ((c .before .before .before .before .before .before .before .before .before .before .before .other-limit) .ensures) at (sym ((c .before .before .before .before .before .before .before .before .before .before .peek-token-is) .ensures) ∙ not-false _ ((c .before .before .before .before .before .before .before .before .before .if1) .left))) h
 
 parse-limits-same-length-5 : (t : ℕ) → parse-limits-lts.Need-same-length-5 (parse-limits-calls t) (parse-limits-at t) parse-limits.Post
 parse-limits-same-length-5 t c =
@@ -1200,7 +1200,7 @@ parse-limits-returns-5 : (t : ℕ) → parse-limits-lts.Need-returns-5 (parse-li
 parse-limits-returns-5 t c =
     let g = rw ((c .before .before .before .before .before .before .before .before .before .before .before .before .before .before .before .before .before .x) .given .1) at ((c .before .before .before .before .before .before .before .before .before .before .before .before .before .before .before .before .before .before .before .before .before .parse-single-node) .ensures) in
     let h = rw ((c .before .before .before .before .before .y) .given .1) at ((c .before .before .before .before .before .before .before .before .before .parse-single-node2) .ensures) in
-    after-two _ _ ((c .before .before .before .before .before .before .before .before .before .before .before .before .before .before .before .before .before .before .before .before .before .before .before .before .before .before .before .before .before .before .before .before .args) .p) _ _ _ _ ((next-made ((c .before .before .before .before .before .before .before .before .before .before .before .before .before .before .before .before .before .before .before .before .before .before .before .before .before .before .before .before .before .before .before .before .args) .s .now) _ ((c .before .before .before .before .before .before .before .before .before .before .before .before .before .before .before .before .before .before .before .before .before .before .before .next-token2) .ensures)) ∙ (next-made ((c .before .before .before .before .before .before .before .before .before .before .before .before .before .before .before .before .before .before .before .before .before .before .before .before .before .before .before .before .before .before .before .before .args) .s .now) ((c .before .before .before .before .before .before .before .before .before .before .before .before .before .before .before .before .before .before .before .before .before .before .before .before .before .before .before .before .before .before .before .before .args) .p) ((c .before .before .before .before .before .before .before .before .before .before .before .before .before .before .before .before .before .before .before .before .before .before .before .before .next-token) .ensures))) g _ _ _ _ _ ((next-made ((c .before .before .before .before .before .before .before .before .before .before .before .before .before .before .before .before .before .before .before .before .before .before .before .before .before .before .before .before .before .before .before .before .args) .s .now) _ ((c .before .before .before .before .before .before .before .before .before .before .before .next-token4) .ensures)) ∙ (next-made ((c .before .before .before .before .before .before .before .before .before .before .before .before .before .before .before .before .before .before .before .before .before .before .before .before .before .before .before .before .before .before .before .before .args) .s .now) _ ((c .before .before .before .before .before .before .before .before .before .before .before .before .next-token3) .ensures))) h _ _ _ _ ((c .before .before .make-limits) .result) refl ((c .before .before .make-limits) .ensures) (limits-is (λ q. parseSingleNode ((c .before .before .before .before .before .before .before .before .before .before .before .before .before .before .before .before .before .before .before .before .before .before .before .before .before .before .before .before .before .before .before .before .args) .depth-left) ((c .before .before .before .before .before .before .before .before .before .before .before .before .before .before .before .before .before .before .before .before .before .before .before .before .before .before .before .before .before .before .before .before .args) .s .now) q) ((c .before .before .before .before .before .before .before .before .before .before .before .before .before .before .before .before .before .before .before .before .before .before .before .before .before .before .before .before .before .before .before .before .args) .s .now) ((c .before .before .before .before .before .before .before .before .before .before .before .before .before .before .before .before .before .before .before .before .before .before .before .before .before .before .before .before .before .before .before .before .args) .k) ((c .before .before .before .before .before .before .before .before .before .before .before .before .before .before .before .before .before .before .before .before .before .before .before .before .before .before .before .before .before .before .before .before .args) .p) ((c .before .before .before .before .before .before .before .before .before .before .before .before .before .before .before .before .before .before .before .before .before .before .before .before .next-token) .ensures) ((c .before .before .before .before .before .before .before .before .before .before .before .before .before .before .before .before .before .before .before .before .before .before .before .next-token2) .ensures) (g .is) ((c .before .before .before .before .before .before .before .before .before .before .before .before .next-token3) .ensures) ((c .before .before .before .before .before .before .before .before .before .before .before .next-token4) .ensures) ((c .before .before .before .before .before .before .before .before .before .before .before .before .before .before .before .before .before .before .before .before .before .before .before .before .before .before .over) .given .0 .0) (sym ((c .before .before .before .before .before .before .before .before .before .before .before .before .before .before .before .before .before .before .before .before .before .before .before .before .before .before .before .before .script-of) .ensures) ∙ (c .before .before .before .before .before .before .before .before .before .before .before .before .before .before .before .before .before .before .before .before .before .before .before .before .before .before .over) .given .1) (rw ((c .before .before .before .before .before .before .before .before .before .before .before .before .before .before .before .other-limit) .ensures) at (sym ((c .before .before .before .before .before .before .before .before .before .before .before .before .before .before .peek-token-is) .ensures) ∙ not-false _ ((c .before .before .before .before .before .before .before .before .before .before .before .before .before .if1) .left))) (h .is))
+    after-two _ _ ((c .before .before .before .before .before .before .before .before .before .before .before .before .before .before .before .before .before .before .before .before .before .before .before .before .before .before .before .before .before .before .before .before .args) .p) _ _ _ _ ((next-made ((c .before .before .before .before .before .before .before .before .before .before .before .before .before .before .before .before .before .before .before .before .before .before .before .before .before .before .before .before .before .before .before .before .args) .s .now) _ ((c .before .before .before .before .before .before .before .before .before .before .before .before .before .before .before .before .before .before .before .before .before .before .before .next-token2) .ensures)) ∙ (next-made ((c .before .before .before .before .before .before .before .before .before .before .before .before .before .before .before .before .before .before .before .before .before .before .before .before .before .before .before .before .before .before .before .before .args) .s .now) ((c .before .before .before .before .before .before .before .before .before .before .before .before .before .before .before .before .before .before .before .before .before .before .before .before .before .before .before .before .before .before .before .before .args) .p) ((c .before .before .before .before .before .before .before .before .before .before .before .before .before .before .before .before .before .before .before .before .before .before .before .before .next-token) .ensures))) g _ _ _ _ _ ((next-made ((c .before .before .before .before .before .before .before .before .before .before .before .before .before .before .before .before .before .before .before .before .before .before .before .before .before .before .before .before .before .before .before .before .args) .s .now) _ ((c .before .before .before .before .before .before .before .before .before .before .before .next-token4) .ensures)) ∙ (next-made ((c .before .before .before .before .before .before .before .before .before .before .before .before .before .before .before .before .before .before .before .before .before .before .before .before .before .before .before .before .before .before .before .before .args) .s .now) _ ((c .before .before .before .before .before .before .before .before .before .before .before .before .next-token3) .ensures))) h _ _ _ _ ((c .before .before .make-limits) .result) refl ((c .before .before .make-limits) .ensures) (limits-is (λ q. parseSingleNode ((c .before .before .before .before .before .before .before .before .before .before .before .before .before .before .before .before .before .before .before .before .before .before .before .before .before .before .before .before .before .before .before .before .args) .depth) ((c .before .before .before .before .before .before .before .before .before .before .before .before .before .before .before .before .before .before .before .before .before .before .before .before .before .before .before .before .before .before .before .before .args) .s .now) q) ((c .before .before .before .before .before .before .before .before .before .before .before .before .before .before .before .before .before .before .before .before .before .before .before .before .before .before .before .before .before .before .before .before .args) .s .now) ((c .before .before .before .before .before .before .before .before .before .before .before .before .before .before .before .before .before .before .before .before .before .before .before .before .before .before .before .before .before .before .before .before .args) .k) ((c .before .before .before .before .before .before .before .before .before .before .before .before .before .before .before .before .before .before .before .before .before .before .before .before .before .before .before .before .before .before .before .before .args) .p) ((c .before .before .before .before .before .before .before .before .before .before .before .before .before .before .before .before .before .before .before .before .before .before .before .before .next-token) .ensures) ((c .before .before .before .before .before .before .before .before .before .before .before .before .before .before .before .before .before .before .before .before .before .before .before .next-token2) .ensures) (g .is) ((c .before .before .before .before .before .before .before .before .before .before .before .before .next-token3) .ensures) ((c .before .before .before .before .before .before .before .before .before .before .before .next-token4) .ensures) ((c .before .before .before .before .before .before .before .before .before .before .before .before .before .before .before .before .before .before .before .before .before .before .before .before .before .before .over) .given .0 .0) (sym ((c .before .before .before .before .before .before .before .before .before .before .before .before .before .before .before .before .before .before .before .before .before .before .before .before .before .before .before .before .script-of) .ensures) ∙ (c .before .before .before .before .before .before .before .before .before .before .before .before .before .before .before .before .before .before .before .before .before .before .before .before .before .before .over) .given .1) (rw ((c .before .before .before .before .before .before .before .before .before .before .before .before .before .before .before .other-limit) .ensures) at (sym ((c .before .before .before .before .before .before .before .before .before .before .before .before .before .before .peek-token-is) .ensures) ∙ not-false _ ((c .before .before .before .before .before .before .before .before .before .before .before .before .before .if1) .left))) (h .is))
 
 parse-middle-next-token-requires : (t : ℕ) → parse-middle-lts.Need-next-token-requires (parse-middle-calls t) (parse-middle-at t) parse-middle.Post
 parse-middle-next-token-requires t c κs = (c .before .before .pre) .1 .0 .sound .peek .inside
@@ -1220,7 +1220,7 @@ parse-middle-enum-known-i t c = search needs
 parse-middle-make-stretched-requires : (t : ℕ) → parse-middle-lts.Need-make-stretched-requires (parse-middle-calls t) (parse-middle-at t) parse-middle.Post
 parse-middle-make-stretched-requires t c κs =
     let g = rw ((c .before .before .i) .given .1) at ((c .before .before .before .before .before .before .parse-single-node) .ensures) in
-    (ends-free 1 (node-ends ((c .before .before .before .before .before .before .parse-single-node) .kept .1 .0) 5 (ends-next (ready-ends ((c .before .before .before .before .before .before .before .before .before .before .before .pre) .1 .0) ((c .before .before .before .before .before .before .before .before .before .before .before .pre) .1 .1)) ((c .before .before .before .before .before .before .before .before .next-token) .ensures)) (omega arith) (single-keeps ((c .before .before .before .before .before .before .before .before .before .before .before .args) .depth-left) ((c .before .before .before .before .before .before .before .before .before .before .before .args) .s .now)) g) (omega arith), g .below)
+    (ends-free 1 (node-ends ((c .before .before .before .before .before .before .parse-single-node) .kept .1 .0) 5 (ends-next (ready-ends ((c .before .before .before .before .before .before .before .before .before .before .before .pre) .1 .0) ((c .before .before .before .before .before .before .before .before .before .before .before .pre) .1 .1)) ((c .before .before .before .before .before .before .before .before .next-token) .ensures)) (omega arith) (single-keeps ((c .before .before .before .before .before .before .before .before .before .before .before .args) .depth) ((c .before .before .before .before .before .before .before .before .before .before .before .args) .s .now)) g) (omega arith), g .below)
 
 parse-middle-same-length : (t : ℕ) → parse-middle-lts.Need-same-length (parse-middle-calls t) (parse-middle-at t) parse-middle.Post
 parse-middle-same-length t c = search needs
@@ -1228,7 +1228,7 @@ parse-middle-same-length t c = search needs
 parse-middle-returns : (t : ℕ) → parse-middle-lts.Need-returns (parse-middle-calls t) (parse-middle-at t) parse-middle.Post
 parse-middle-returns t c =
     let g = rw ((c .before .r) .given .1) at ((c .before .before .before .before .before .parse-single-node) .ensures) in
-    middle-no (λ q. parseSingleNode ((c .before .before .before .before .before .before .before .before .before .before .args) .depth-left) ((c .before .before .before .before .before .before .before .before .before .before .args) .s .now) q) ((c .before .before .before .before .before .before .before .before .before .before .args) .s .now) ((c .before .before .before .before .before .before .before .before .before .before .args) .p) ((c .before .before .before .before .before .before .before .next-token) .ensures) g
+    middle-no (λ q. parseSingleNode ((c .before .before .before .before .before .before .before .before .before .before .args) .depth) ((c .before .before .before .before .before .before .before .before .before .before .args) .s .now) q) ((c .before .before .before .before .before .before .before .before .before .before .args) .s .now) ((c .before .before .before .before .before .before .before .before .before .before .args) .p) ((c .before .before .before .before .before .before .before .next-token) .ensures) g
 
 parse-middle-same-length-2 : (t : ℕ) → parse-middle-lts.Need-same-length-2 (parse-middle-calls t) (parse-middle-at t) parse-middle.Post
 parse-middle-same-length-2 t c = search needs
@@ -1236,11 +1236,11 @@ parse-middle-same-length-2 t c = search needs
 parse-middle-returns-2 : (t : ℕ) → parse-middle-lts.Need-returns-2 (parse-middle-calls t) (parse-middle-at t) parse-middle.Post
 parse-middle-returns-2 t c =
     let g = rw ((c .before .before .before .before .before .i) .given .1) at ((c .before .before .before .before .before .before .before .before .before .parse-single-node) .ensures) in
-    after-one _ _ ((c .before .before .before .before .before .before .before .before .before .before .before .before .before .before .args) .p) _ _ _ _ (next-made ((c .before .before .before .before .before .before .before .before .before .before .before .before .before .before .args) .s .now) ((c .before .before .before .before .before .before .before .before .before .before .before .before .before .before .args) .p) ((c .before .before .before .before .before .before .before .before .before .before .before .next-token) .ensures)) g _ _ _ _ ((c .before .before .make-stretched) .result) refl ((c .before .before .make-stretched) .ensures) (middle-is (λ q. parseSingleNode ((c .before .before .before .before .before .before .before .before .before .before .before .before .before .before .args) .depth-left) ((c .before .before .before .before .before .before .before .before .before .before .before .before .before .before .args) .s .now) q) ((c .before .before .before .before .before .before .before .before .before .before .before .before .before .before .args) .s .now) ((c .before .before .before .before .before .before .before .before .before .before .before .before .before .before .args) .p) ((c .before .before .before .before .before .before .before .before .before .before .before .next-token) .ensures) (g .is))
+    after-one _ _ ((c .before .before .before .before .before .before .before .before .before .before .before .before .before .before .args) .p) _ _ _ _ (next-made ((c .before .before .before .before .before .before .before .before .before .before .before .before .before .before .args) .s .now) ((c .before .before .before .before .before .before .before .before .before .before .before .before .before .before .args) .p) ((c .before .before .before .before .before .before .before .before .before .before .before .next-token) .ensures)) g _ _ _ _ ((c .before .before .make-stretched) .result) refl ((c .before .before .make-stretched) .ensures) (middle-is (λ q. parseSingleNode ((c .before .before .before .before .before .before .before .before .before .before .before .before .before .before .args) .depth) ((c .before .before .before .before .before .before .before .before .before .before .before .before .before .before .args) .s .now) q) ((c .before .before .before .before .before .before .before .before .before .before .before .before .before .before .args) .s .now) ((c .before .before .before .before .before .before .before .before .before .before .before .before .before .before .args) .p) ((c .before .before .before .before .before .before .before .before .before .before .before .next-token) .ensures) (g .is))
 
 parse-node-returns : (t : ℕ) → parse-node-lts.Need-returns (parse-node-calls t) (parse-node-at t) parse-node.Post
 parse-node-returns t c =
-    node-zero ((c .before .before .before .args) .depth-left) ((c .before .before .before .args) .s .now) ((c .before .before .before .args) .p) ((c .if1) .taken)
+    node-zero ((c .before .before .before .args) .depth) ((c .before .before .before .args) .s .now) ((c .before .before .before .args) .p) ((c .if1) .taken)
 
 parse-node-sub-parse-single-node : (t : ℕ) → parse-node-lts.Need-sub-parse-single-node (parse-node-calls t) (parse-node-at t) parse-node.Post
 parse-node-sub-parse-single-node t c = search needs
@@ -1269,12 +1269,12 @@ parse-node-enum-known-over t c = search needs
 parse-node-next-token-requires : (t : ℕ) → parse-node-lts.Need-next-token-requires (parse-node-calls t) (parse-node-at t) parse-node.Post
 parse-node-next-token-requires t c κs =
     let g = rw ((c .before .before .before .before .before .before .left) .given .1) at ((c .before .before .before .before .before .before .before .before .before .before .parse-single-node) .ensures) in
-    (ready-node ((c .before .before .before .before .before .before .before .before .before .before .parse-single-node) .kept .1 .0) ((c .before .before .before .before .before .before .before .before .before .before .before .before .before .before .before .pre) .1) (single-keeps (((c .before .before .before .before .before .before .before .before .before .before .before .before .before .before .before .args) .depth-left) - 1) ((c .before .before .before .before .before .before .before .before .before .before .before .before .before .before .before .args) .s .now)) g) .sound .peek .inside
+    (ready-node ((c .before .before .before .before .before .before .before .before .before .before .parse-single-node) .kept .1 .0) ((c .before .before .before .before .before .before .before .before .before .before .before .before .before .before .before .pre) .1) (single-keeps (((c .before .before .before .before .before .before .before .before .before .before .before .before .before .before .before .args) .depth) - 1) ((c .before .before .before .before .before .before .before .before .before .before .before .before .before .before .before .args) .s .now)) g) .sound .peek .inside
 
 parse-node-next-token-requires-2 : (t : ℕ) → parse-node-lts.Need-next-token-requires-2 (parse-node-calls t) (parse-node-at t) parse-node.Post
 parse-node-next-token-requires-2 t c κs =
     let g = rw ((c .before .before .before .before .before .before .before .left) .given .1) at ((c .before .before .before .before .before .before .before .before .before .before .before .parse-single-node) .ensures) in
-    (ends-next (ready-node ((c .before .before .before .before .before .before .before .before .before .before .before .parse-single-node) .kept .1 .0) ((c .before .before .before .before .before .before .before .before .before .before .before .before .before .before .before .before .pre) .1) (single-keeps (((c .before .before .before .before .before .before .before .before .before .before .before .before .before .before .before .before .args) .depth-left) - 1) ((c .before .before .before .before .before .before .before .before .before .before .before .before .before .before .before .before .args) .s .now)) g) ((c .next-token) .ensures)) .sound .peek .inside
+    (ends-next (ready-node ((c .before .before .before .before .before .before .before .before .before .before .before .parse-single-node) .kept .1 .0) ((c .before .before .before .before .before .before .before .before .before .before .before .before .before .before .before .before .pre) .1) (single-keeps (((c .before .before .before .before .before .before .before .before .before .before .before .before .before .before .before .before .args) .depth) - 1) ((c .before .before .before .before .before .before .before .before .before .before .before .before .before .before .before .before .args) .s .now)) g) ((c .next-token) .ensures)) .sound .peek .inside
 
 parse-node-sub-parse-node : (t : ℕ) → parse-node-lts.Need-sub-parse-node (parse-node-calls t) (parse-node-at t) parse-node.Post
 parse-node-sub-parse-node t c =
@@ -1286,7 +1286,7 @@ parse-node-parse-node-requires t c κs =
     let m = (c .before .before .before .before .before .before .before .before .before .before .before .before .before .before .before .before .before .before .pre) .0 in
     let z = (c .before .before .before .before .before .before .before .before .before .before .before .before .before .before .before .if1) .left in
     let g = rw ((c .before .before .before .before .before .before .before .before .before .left) .given .1) at ((c .before .before .before .before .before .before .before .before .before .before .before .before .before .parse-single-node) .ensures) in
-    (omega arith, starts-ready (ends-mark (scriptMark ((c .before .before .before .before .over) .given .0 .0)) (ready-node ((c .before .before .before .before .before .before .before .before .before .before .before .before .before .parse-single-node) .kept .1 .0) ((c .before .before .before .before .before .before .before .before .before .before .before .before .before .before .before .before .before .before .pre) .1) (single-keeps (((c .before .before .before .before .before .before .before .before .before .before .before .before .before .before .before .before .before .before .args) .depth-left) - 1) ((c .before .before .before .before .before .before .before .before .before .before .before .before .before .before .before .before .before .before .args) .s .now)) g) (script-mark _ ((c .before .before .before .before .over) .given .0 .0) (sym ((c .before .before .before .before .before .before .script-of) .ensures) ∙ (c .before .before .before .before .over) .given .1)) (script-byte ((c .before .before .before .before .over) .given .0 .0)) ((c .before .before .next-token) .ensures) ((c .before .next-token2) .ensures)) (omega arith))
+    (omega arith, starts-ready (ends-mark (scriptMark ((c .before .before .before .before .over) .given .0 .0)) (ready-node ((c .before .before .before .before .before .before .before .before .before .before .before .before .before .parse-single-node) .kept .1 .0) ((c .before .before .before .before .before .before .before .before .before .before .before .before .before .before .before .before .before .before .pre) .1) (single-keeps (((c .before .before .before .before .before .before .before .before .before .before .before .before .before .before .before .before .before .before .args) .depth) - 1) ((c .before .before .before .before .before .before .before .before .before .before .before .before .before .before .before .before .before .before .args) .s .now)) g) (script-mark _ ((c .before .before .before .before .over) .given .0 .0) (sym ((c .before .before .before .before .before .before .script-of) .ensures) ∙ (c .before .before .before .before .over) .given .1)) (script-byte ((c .before .before .before .before .over) .given .0 .0)) ((c .before .before .next-token) .ensures) ((c .before .next-token2) .ensures)) (omega arith))
 
 parse-node-enum-known-r-2 : (t : ℕ) → parse-node-lts.Need-enum-known-r-2 (parse-node-calls t) (parse-node-at t) parse-node.Post
 parse-node-enum-known-r-2 t c = search needs
@@ -1301,7 +1301,7 @@ parse-node-make-two-requires : (t : ℕ) → parse-node-lts.Need-make-two-requir
 parse-node-make-two-requires t c κs =
     let g = rw ((c .before .before .before .before .before .before .before .before .before .before .before .before .before .before .before .before .before .left) .given .1) at ((c .before .before .before .before .before .before .before .before .before .before .before .before .before .before .before .before .before .before .before .before .before .parse-single-node) .ensures) in
     let h = rw ((c .before .before .before .right) .given .1) at ((c .before .before .before .before .before .before .before .parse-node) .ensures) in
-    (ends-free 1 (node-ends ((c .before .before .before .before .before .before .before .parse-node) .kept .1 .0) 1 (ends-mark (scriptMark ((c .before .before .before .before .before .before .before .before .before .before .before .before .over) .given .0 .0)) (ready-node ((c .before .before .before .before .before .before .before .before .before .before .before .before .before .before .before .before .before .before .before .before .before .parse-single-node) .kept .1 .0) ((c .before .before .before .before .before .before .before .before .before .before .before .before .before .before .before .before .before .before .before .before .before .before .before .before .before .before .pre) .1) (single-keeps (((c .before .before .before .before .before .before .before .before .before .before .before .before .before .before .before .before .before .before .before .before .before .before .before .before .before .before .args) .depth-left) - 1) ((c .before .before .before .before .before .before .before .before .before .before .before .before .before .before .before .before .before .before .before .before .before .before .before .before .before .before .args) .s .now)) g) (script-mark _ ((c .before .before .before .before .before .before .before .before .before .before .before .before .over) .given .0 .0) (sym ((c .before .before .before .before .before .before .before .before .before .before .before .before .before .before .script-of) .ensures) ∙ (c .before .before .before .before .before .before .before .before .before .before .before .before .over) .given .1)) (script-byte ((c .before .before .before .before .before .before .before .before .before .before .before .before .over) .given .0 .0)) ((c .before .before .before .before .before .before .before .before .before .before .next-token) .ensures) ((c .before .before .before .before .before .before .before .before .before .next-token2) .ensures)) (omega arith) (node-keeps (((c .before .before .before .before .before .before .before .before .before .before .before .before .before .before .before .before .before .before .before .before .before .before .before .before .before .before .args) .depth-left) - 1) ((c .before .before .before .before .before .before .before .before .before .before .before .before .before .before .before .before .before .before .before .before .before .before .before .before .before .before .args) .s .now)) h) (omega arith), first-below _ _ ((c .before .before .before .before .before .before .before .before .before .before .before .before .before .before .before .before .before .before .before .before .before .before .before .before .before .before .args) .p) _ _ _ _ refl g _ _ _ _ _ (next-made ((c .before .before .before .before .before .before .before .before .before .before .before .before .before .before .before .before .before .before .before .before .before .before .before .before .before .before .args) .s .now) _ ((c .before .before .before .before .before .before .before .before .before .next-token2) .ensures) ∙ next-made ((c .before .before .before .before .before .before .before .before .before .before .before .before .before .before .before .before .before .before .before .before .before .before .before .before .before .before .args) .s .now) _ ((c .before .before .before .before .before .before .before .before .before .before .next-token) .ensures)) h, h .below)
+    (ends-free 1 (node-ends ((c .before .before .before .before .before .before .before .parse-node) .kept .1 .0) 1 (ends-mark (scriptMark ((c .before .before .before .before .before .before .before .before .before .before .before .before .over) .given .0 .0)) (ready-node ((c .before .before .before .before .before .before .before .before .before .before .before .before .before .before .before .before .before .before .before .before .before .parse-single-node) .kept .1 .0) ((c .before .before .before .before .before .before .before .before .before .before .before .before .before .before .before .before .before .before .before .before .before .before .before .before .before .before .pre) .1) (single-keeps (((c .before .before .before .before .before .before .before .before .before .before .before .before .before .before .before .before .before .before .before .before .before .before .before .before .before .before .args) .depth) - 1) ((c .before .before .before .before .before .before .before .before .before .before .before .before .before .before .before .before .before .before .before .before .before .before .before .before .before .before .args) .s .now)) g) (script-mark _ ((c .before .before .before .before .before .before .before .before .before .before .before .before .over) .given .0 .0) (sym ((c .before .before .before .before .before .before .before .before .before .before .before .before .before .before .script-of) .ensures) ∙ (c .before .before .before .before .before .before .before .before .before .before .before .before .over) .given .1)) (script-byte ((c .before .before .before .before .before .before .before .before .before .before .before .before .over) .given .0 .0)) ((c .before .before .before .before .before .before .before .before .before .before .next-token) .ensures) ((c .before .before .before .before .before .before .before .before .before .next-token2) .ensures)) (omega arith) (node-keeps (((c .before .before .before .before .before .before .before .before .before .before .before .before .before .before .before .before .before .before .before .before .before .before .before .before .before .before .args) .depth) - 1) ((c .before .before .before .before .before .before .before .before .before .before .before .before .before .before .before .before .before .before .before .before .before .before .before .before .before .before .args) .s .now)) h) (omega arith), first-below _ _ ((c .before .before .before .before .before .before .before .before .before .before .before .before .before .before .before .before .before .before .before .before .before .before .before .before .before .before .args) .p) _ _ _ _ refl g _ _ _ _ _ (next-made ((c .before .before .before .before .before .before .before .before .before .before .before .before .before .before .before .before .before .before .before .before .before .before .before .before .before .before .args) .s .now) _ ((c .before .before .before .before .before .before .before .before .before .next-token2) .ensures) ∙ next-made ((c .before .before .before .before .before .before .before .before .before .before .before .before .before .before .before .before .before .before .before .before .before .before .before .before .before .before .args) .s .now) _ ((c .before .before .before .before .before .before .before .before .before .before .next-token) .ensures)) h, h .below)
 
 parse-node-same-length : (t : ℕ) → parse-node-lts.Need-same-length (parse-node-calls t) (parse-node-at t) parse-node.Post
 parse-node-same-length t c = search needs
@@ -1309,7 +1309,7 @@ parse-node-same-length t c = search needs
 parse-node-returns-2 : (t : ℕ) → parse-node-lts.Need-returns-2 (parse-node-calls t) (parse-node-at t) parse-node.Post
 parse-node-returns-2 t c =
     let g = rw ((c .before .r) .given .1) at ((c .before .before .before .before .before .parse-single-node) .ensures) in
-    node-more ((c .before .before .before .before .before .before .before .before .before .before .args) .depth-left) ((c .before .before .before .before .before .before .before .before .before .before .args) .s .now) ((c .before .before .before .before .before .before .before .before .before .before .args) .p) ((c .before .before .before .before .before .before .before .if1) .left) ∙ node-no (λ q. parseNode (((c .before .before .before .before .before .before .before .before .before .before .args) .depth-left) - 1) ((c .before .before .before .before .before .before .before .before .before .before .args) .s .now) q) (λ q. parseSingleNode (((c .before .before .before .before .before .before .before .before .before .before .args) .depth-left) - 1) ((c .before .before .before .before .before .before .before .before .before .before .args) .s .now) q) ((c .before .before .before .before .before .before .before .before .before .before .args) .s .now) ((c .before .before .before .before .before .before .before .before .before .before .args) .p) g
+    node-more ((c .before .before .before .before .before .before .before .before .before .before .args) .depth) ((c .before .before .before .before .before .before .before .before .before .before .args) .s .now) ((c .before .before .before .before .before .before .before .before .before .before .args) .p) ((c .before .before .before .before .before .before .before .if1) .left) ∙ node-no (λ q. parseNode (((c .before .before .before .before .before .before .before .before .before .before .args) .depth) - 1) ((c .before .before .before .before .before .before .before .before .before .before .args) .s .now) q) (λ q. parseSingleNode (((c .before .before .before .before .before .before .before .before .before .before .args) .depth) - 1) ((c .before .before .before .before .before .before .before .before .before .before .args) .s .now) q) ((c .before .before .before .before .before .before .before .before .before .before .args) .s .now) ((c .before .before .before .before .before .before .before .before .before .before .args) .p) g
 
 parse-node-same-length-2 : (t : ℕ) → parse-node-lts.Need-same-length-2 (parse-node-calls t) (parse-node-at t) parse-node.Post
 parse-node-same-length-2 t c = search needs
@@ -1317,7 +1317,7 @@ parse-node-same-length-2 t c = search needs
 parse-node-returns-3 : (t : ℕ) → parse-node-lts.Need-returns-3 (parse-node-calls t) (parse-node-at t) parse-node.Post
 parse-node-returns-3 t c =
     let g = rw ((c .before .before .before .before .before .left) .given .1) at ((c .before .before .before .before .before .before .before .before .before .parse-single-node) .ensures) in
-    only _ _ ((c .before .before .before .before .before .before .before .before .before .before .before .before .before .before .args) .p) _ _ _ _ refl g _ (node-more ((c .before .before .before .before .before .before .before .before .before .before .before .before .before .before .args) .depth-left) ((c .before .before .before .before .before .before .before .before .before .before .before .before .before .before .args) .s .now) ((c .before .before .before .before .before .before .before .before .before .before .before .before .before .before .args) .p) ((c .before .before .before .before .before .before .before .before .before .before .before .if1) .left) ∙ node-bare (λ q. parseNode (((c .before .before .before .before .before .before .before .before .before .before .before .before .before .before .args) .depth-left) - 1) ((c .before .before .before .before .before .before .before .before .before .before .before .before .before .before .args) .s .now) q) (λ q. parseSingleNode (((c .before .before .before .before .before .before .before .before .before .before .before .before .before .before .args) .depth-left) - 1) ((c .before .before .before .before .before .before .before .before .before .before .before .before .before .before .args) .s .now) q) ((c .before .before .before .before .before .before .before .before .before .before .before .before .before .before .args) .s .now) ((c .before .before .before .before .before .before .before .before .before .before .before .before .before .before .args) .p) (g .is) (sym ((c .before .before .script-of) .ensures) ∙ (c .enum-told) .given .1))
+    only _ _ ((c .before .before .before .before .before .before .before .before .before .before .before .before .before .before .args) .p) _ _ _ _ refl g _ (node-more ((c .before .before .before .before .before .before .before .before .before .before .before .before .before .before .args) .depth) ((c .before .before .before .before .before .before .before .before .before .before .before .before .before .before .args) .s .now) ((c .before .before .before .before .before .before .before .before .before .before .before .before .before .before .args) .p) ((c .before .before .before .before .before .before .before .before .before .before .before .if1) .left) ∙ node-bare (λ q. parseNode (((c .before .before .before .before .before .before .before .before .before .before .before .before .before .before .args) .depth) - 1) ((c .before .before .before .before .before .before .before .before .before .before .before .before .before .before .args) .s .now) q) (λ q. parseSingleNode (((c .before .before .before .before .before .before .before .before .before .before .before .before .before .before .args) .depth) - 1) ((c .before .before .before .before .before .before .before .before .before .before .before .before .before .before .args) .s .now) q) ((c .before .before .before .before .before .before .before .before .before .before .before .before .before .before .args) .s .now) ((c .before .before .before .before .before .before .before .before .before .before .before .before .before .before .args) .p) (g .is) (sym ((c .before .before .script-of) .ensures) ∙ (c .enum-told) .given .1))
 
 parse-node-same-length-3 : (t : ℕ) → parse-node-lts.Need-same-length-3 (parse-node-calls t) (parse-node-at t) parse-node.Post
 parse-node-same-length-3 t c =
@@ -1327,7 +1327,7 @@ parse-node-returns-4 : (t : ℕ) → parse-node-lts.Need-returns-4 (parse-node-c
 parse-node-returns-4 t c =
     let g = rw ((c .before .before .before .before .before .before .before .before .before .before .before .before .before .before .before .left) .given .1) at ((c .before .before .before .before .before .before .before .before .before .before .before .before .before .before .before .before .before .before .before .parse-single-node) .ensures) in
     let h = rw ((c .before .r2) .given .1) at ((c .before .before .before .before .before .parse-node) .ensures) in
-    node-more ((c .before .before .before .before .before .before .before .before .before .before .before .before .before .before .before .before .before .before .before .before .before .before .before .before .args) .depth-left) ((c .before .before .before .before .before .before .before .before .before .before .before .before .before .before .before .before .before .before .before .before .before .before .before .before .args) .s .now) ((c .before .before .before .before .before .before .before .before .before .before .before .before .before .before .before .before .before .before .before .before .before .before .before .before .args) .p) ((c .before .before .before .before .before .before .before .before .before .before .before .before .before .before .before .before .before .before .before .before .before .if1) .left) ∙ script-no (λ q. parseNode (((c .before .before .before .before .before .before .before .before .before .before .before .before .before .before .before .before .before .before .before .before .before .before .before .before .args) .depth-left) - 1) ((c .before .before .before .before .before .before .before .before .before .before .before .before .before .before .before .before .before .before .before .before .before .before .before .before .args) .s .now) q) (λ q. parseSingleNode (((c .before .before .before .before .before .before .before .before .before .before .before .before .before .before .before .before .before .before .before .before .before .before .before .before .args) .depth-left) - 1) ((c .before .before .before .before .before .before .before .before .before .before .before .before .before .before .before .before .before .before .before .before .before .before .before .before .args) .s .now) q) ((c .before .before .before .before .before .before .before .before .before .before .before .before .before .before .before .before .before .before .before .before .before .before .before .before .args) .s .now) ((c .before .before .before .before .before .before .before .before .before .before .before .before .before .before .before .before .before .before .before .before .before .before .before .before .args) .p) (g .is) ((c .before .before .before .before .before .before .before .before .before .before .over) .given .0 .0) (sym ((c .before .before .before .before .before .before .before .before .before .before .before .before .script-of) .ensures) ∙ (c .before .before .before .before .before .before .before .before .before .before .over) .given .1) ((c .before .before .before .before .before .before .before .before .next-token) .ensures) ((c .before .before .before .before .before .before .before .next-token2) .ensures) h
+    node-more ((c .before .before .before .before .before .before .before .before .before .before .before .before .before .before .before .before .before .before .before .before .before .before .before .before .args) .depth) ((c .before .before .before .before .before .before .before .before .before .before .before .before .before .before .before .before .before .before .before .before .before .before .before .before .args) .s .now) ((c .before .before .before .before .before .before .before .before .before .before .before .before .before .before .before .before .before .before .before .before .before .before .before .before .args) .p) ((c .before .before .before .before .before .before .before .before .before .before .before .before .before .before .before .before .before .before .before .before .before .if1) .left) ∙ script-no (λ q. parseNode (((c .before .before .before .before .before .before .before .before .before .before .before .before .before .before .before .before .before .before .before .before .before .before .before .before .args) .depth) - 1) ((c .before .before .before .before .before .before .before .before .before .before .before .before .before .before .before .before .before .before .before .before .before .before .before .before .args) .s .now) q) (λ q. parseSingleNode (((c .before .before .before .before .before .before .before .before .before .before .before .before .before .before .before .before .before .before .before .before .before .before .before .before .args) .depth) - 1) ((c .before .before .before .before .before .before .before .before .before .before .before .before .before .before .before .before .before .before .before .before .before .before .before .before .args) .s .now) q) ((c .before .before .before .before .before .before .before .before .before .before .before .before .before .before .before .before .before .before .before .before .before .before .before .before .args) .s .now) ((c .before .before .before .before .before .before .before .before .before .before .before .before .before .before .before .before .before .before .before .before .before .before .before .before .args) .p) (g .is) ((c .before .before .before .before .before .before .before .before .before .before .over) .given .0 .0) (sym ((c .before .before .before .before .before .before .before .before .before .before .before .before .script-of) .ensures) ∙ (c .before .before .before .before .before .before .before .before .before .before .over) .given .1) ((c .before .before .before .before .before .before .before .before .next-token) .ensures) ((c .before .before .before .before .before .before .before .next-token2) .ensures) h
 
 parse-node-same-length-4 : (t : ℕ) → parse-node-lts.Need-same-length-4 (parse-node-calls t) (parse-node-at t) parse-node.Post
 parse-node-same-length-4 t c =
@@ -1337,7 +1337,7 @@ parse-node-returns-5 : (t : ℕ) → parse-node-lts.Need-returns-5 (parse-node-c
 parse-node-returns-5 t c =
     let g = rw ((c .before .before .before .before .before .before .before .before .before .before .before .before .before .before .before .before .before .before .before .before .left) .given .1) at ((c .before .before .before .before .before .before .before .before .before .before .before .before .before .before .before .before .before .before .before .before .before .before .before .before .parse-single-node) .ensures) in
     let h = rw ((c .before .before .before .before .before .before .right) .given .1) at ((c .before .before .before .before .before .before .before .before .before .before .parse-node) .ensures) in
-    after-two _ _ ((c .before .before .before .before .before .before .before .before .before .before .before .before .before .before .before .before .before .before .before .before .before .before .before .before .before .before .before .before .before .args) .p) _ _ _ _ refl g _ _ _ _ _ (next-made ((c .before .before .before .before .before .before .before .before .before .before .before .before .before .before .before .before .before .before .before .before .before .before .before .before .before .before .before .before .before .args) .s .now) _ ((c .before .before .before .before .before .before .before .before .before .before .before .before .next-token2) .ensures) ∙ next-made ((c .before .before .before .before .before .before .before .before .before .before .before .before .before .before .before .before .before .before .before .before .before .before .before .before .before .before .before .before .before .args) .s .now) _ ((c .before .before .before .before .before .before .before .before .before .before .before .before .before .next-token) .ensures)) h _ _ _ _ ((c .before .before .make-two) .result) refl (rw ((c .before .before .before .script-kind) .ensures) at ((c .before .before .make-two) .ensures)) (node-more ((c .before .before .before .before .before .before .before .before .before .before .before .before .before .before .before .before .before .before .before .before .before .before .before .before .before .before .before .before .before .args) .depth-left) ((c .before .before .before .before .before .before .before .before .before .before .before .before .before .before .before .before .before .before .before .before .before .before .before .before .before .before .before .before .before .args) .s .now) ((c .before .before .before .before .before .before .before .before .before .before .before .before .before .before .before .before .before .before .before .before .before .before .before .before .before .before .before .before .before .args) .p) ((c .before .before .before .before .before .before .before .before .before .before .before .before .before .before .before .before .before .before .before .before .before .before .before .before .before .before .if1) .left) ∙ script-is (λ q. parseNode (((c .before .before .before .before .before .before .before .before .before .before .before .before .before .before .before .before .before .before .before .before .before .before .before .before .before .before .before .before .before .args) .depth-left) - 1) ((c .before .before .before .before .before .before .before .before .before .before .before .before .before .before .before .before .before .before .before .before .before .before .before .before .before .before .before .before .before .args) .s .now) q) (λ q. parseSingleNode (((c .before .before .before .before .before .before .before .before .before .before .before .before .before .before .before .before .before .before .before .before .before .before .before .before .before .before .before .before .before .args) .depth-left) - 1) ((c .before .before .before .before .before .before .before .before .before .before .before .before .before .before .before .before .before .before .before .before .before .before .before .before .before .before .before .before .before .args) .s .now) q) ((c .before .before .before .before .before .before .before .before .before .before .before .before .before .before .before .before .before .before .before .before .before .before .before .before .before .before .before .before .before .args) .s .now) ((c .before .before .before .before .before .before .before .before .before .before .before .before .before .before .before .before .before .before .before .before .before .before .before .before .before .before .before .before .before .args) .p) (g .is) ((c .before .before .before .before .before .before .before .before .before .before .before .before .before .before .before .over) .given .0 .0) (sym ((c .before .before .before .before .before .before .before .before .before .before .before .before .before .before .before .before .before .script-of) .ensures) ∙ (c .before .before .before .before .before .before .before .before .before .before .before .before .before .before .before .over) .given .1) ((c .before .before .before .before .before .before .before .before .before .before .before .before .before .next-token) .ensures) ((c .before .before .before .before .before .before .before .before .before .before .before .before .next-token2) .ensures) (h .is))
+    after-two _ _ ((c .before .before .before .before .before .before .before .before .before .before .before .before .before .before .before .before .before .before .before .before .before .before .before .before .before .before .before .before .before .args) .p) _ _ _ _ refl g _ _ _ _ _ (next-made ((c .before .before .before .before .before .before .before .before .before .before .before .before .before .before .before .before .before .before .before .before .before .before .before .before .before .before .before .before .before .args) .s .now) _ ((c .before .before .before .before .before .before .before .before .before .before .before .before .next-token2) .ensures) ∙ next-made ((c .before .before .before .before .before .before .before .before .before .before .before .before .before .before .before .before .before .before .before .before .before .before .before .before .before .before .before .before .before .args) .s .now) _ ((c .before .before .before .before .before .before .before .before .before .before .before .before .before .next-token) .ensures)) h _ _ _ _ ((c .before .before .make-two) .result) refl (rw ((c .before .before .before .script-kind) .ensures) at ((c .before .before .make-two) .ensures)) (node-more ((c .before .before .before .before .before .before .before .before .before .before .before .before .before .before .before .before .before .before .before .before .before .before .before .before .before .before .before .before .before .args) .depth) ((c .before .before .before .before .before .before .before .before .before .before .before .before .before .before .before .before .before .before .before .before .before .before .before .before .before .before .before .before .before .args) .s .now) ((c .before .before .before .before .before .before .before .before .before .before .before .before .before .before .before .before .before .before .before .before .before .before .before .before .before .before .before .before .before .args) .p) ((c .before .before .before .before .before .before .before .before .before .before .before .before .before .before .before .before .before .before .before .before .before .before .before .before .before .before .if1) .left) ∙ script-is (λ q. parseNode (((c .before .before .before .before .before .before .before .before .before .before .before .before .before .before .before .before .before .before .before .before .before .before .before .before .before .before .before .before .before .args) .depth) - 1) ((c .before .before .before .before .before .before .before .before .before .before .before .before .before .before .before .before .before .before .before .before .before .before .before .before .before .before .before .before .before .args) .s .now) q) (λ q. parseSingleNode (((c .before .before .before .before .before .before .before .before .before .before .before .before .before .before .before .before .before .before .before .before .before .before .before .before .before .before .before .before .before .args) .depth) - 1) ((c .before .before .before .before .before .before .before .before .before .before .before .before .before .before .before .before .before .before .before .before .before .before .before .before .before .before .before .before .before .args) .s .now) q) ((c .before .before .before .before .before .before .before .before .before .before .before .before .before .before .before .before .before .before .before .before .before .before .before .before .before .before .before .before .before .args) .s .now) ((c .before .before .before .before .before .before .before .before .before .before .before .before .before .before .before .before .before .before .before .before .before .before .before .before .before .before .before .before .before .args) .p) (g .is) ((c .before .before .before .before .before .before .before .before .before .before .before .before .before .before .before .over) .given .0 .0) (sym ((c .before .before .before .before .before .before .before .before .before .before .before .before .before .before .before .before .before .script-of) .ensures) ∙ (c .before .before .before .before .before .before .before .before .before .before .before .before .before .before .before .over) .given .1) ((c .before .before .before .before .before .before .before .before .before .before .before .before .before .next-token) .ensures) ((c .before .before .before .before .before .before .before .before .before .before .before .before .next-token2) .ensures) (h .is))
 
 parse-one-next-token-requires : (t : ℕ) → parse-one-lts.Need-next-token-requires (parse-one-calls t) (parse-one-at t) parse-one.Post
 parse-one-next-token-requires t c κs = (c .before .before .pre) .1 .0 .sound .peek .inside
@@ -1356,7 +1356,7 @@ parse-one-enum-known-a t c = search needs
 parse-one-make-one-requires : (t : ℕ) → parse-one-lts.Need-make-one-requires (parse-one-calls t) (parse-one-at t) parse-one.Post
 parse-one-make-one-requires t c κs =
     let g = rw ((c .before .before .a) .given .1) at ((c .before .before .before .before .before .before .parse-node) .ensures) in
-    (ends-free 1 (node-ends ((c .before .before .before .before .before .before .parse-node) .kept .1 .0) 5 (ends-next (ready-ends ((c .before .before .before .before .before .before .before .before .before .before .before .pre) .1 .0) ((c .before .before .before .before .before .before .before .before .before .before .before .pre) .1 .1)) ((c .before .before .before .before .before .before .before .before .next-token) .ensures)) (omega arith) (node-keeps ((c .before .before .before .before .before .before .before .before .before .before .before .args) .depth-left) ((c .before .before .before .before .before .before .before .before .before .before .before .args) .s .now)) g) (omega arith), g .below)
+    (ends-free 1 (node-ends ((c .before .before .before .before .before .before .parse-node) .kept .1 .0) 5 (ends-next (ready-ends ((c .before .before .before .before .before .before .before .before .before .before .before .pre) .1 .0) ((c .before .before .before .before .before .before .before .before .before .before .before .pre) .1 .1)) ((c .before .before .before .before .before .before .before .before .next-token) .ensures)) (omega arith) (node-keeps ((c .before .before .before .before .before .before .before .before .before .before .before .args) .depth) ((c .before .before .before .before .before .before .before .before .before .before .before .args) .s .now)) g) (omega arith), g .below)
 
 parse-one-same-length : (t : ℕ) → parse-one-lts.Need-same-length (parse-one-calls t) (parse-one-at t) parse-one.Post
 parse-one-same-length t c = search needs
@@ -1364,7 +1364,7 @@ parse-one-same-length t c = search needs
 parse-one-returns : (t : ℕ) → parse-one-lts.Need-returns (parse-one-calls t) (parse-one-at t) parse-one.Post
 parse-one-returns t c =
     let g = rw ((c .before .r) .given .1) at ((c .before .before .before .before .before .parse-node) .ensures) in
-    one-no (λ q. parseNode ((c .before .before .before .before .before .before .before .before .before .before .args) .depth-left) ((c .before .before .before .before .before .before .before .before .before .before .args) .s .now) q) ((c .before .before .before .before .before .before .before .before .before .before .args) .s .now) ((c .before .before .before .before .before .before .before .before .before .before .args) .p) ((c .before .before .before .before .before .before .before .next-token) .ensures) ((c .before .before .before .before .before .before .before .before .before .before .args) .k) g
+    one-no (λ q. parseNode ((c .before .before .before .before .before .before .before .before .before .before .args) .depth) ((c .before .before .before .before .before .before .before .before .before .before .args) .s .now) q) ((c .before .before .before .before .before .before .before .before .before .before .args) .s .now) ((c .before .before .before .before .before .before .before .before .before .before .args) .p) ((c .before .before .before .before .before .before .before .next-token) .ensures) ((c .before .before .before .before .before .before .before .before .before .before .args) .k) g
 
 parse-one-same-length-2 : (t : ℕ) → parse-one-lts.Need-same-length-2 (parse-one-calls t) (parse-one-at t) parse-one.Post
 parse-one-same-length-2 t c = search needs
@@ -1372,11 +1372,11 @@ parse-one-same-length-2 t c = search needs
 parse-one-returns-2 : (t : ℕ) → parse-one-lts.Need-returns-2 (parse-one-calls t) (parse-one-at t) parse-one.Post
 parse-one-returns-2 t c =
     let g = rw ((c .before .before .before .before .before .a) .given .1) at ((c .before .before .before .before .before .before .before .before .before .parse-node) .ensures) in
-    after-one _ _ ((c .before .before .before .before .before .before .before .before .before .before .before .before .before .before .args) .p) _ _ _ _ (next-made ((c .before .before .before .before .before .before .before .before .before .before .before .before .before .before .args) .s .now) ((c .before .before .before .before .before .before .before .before .before .before .before .before .before .before .args) .p) ((c .before .before .before .before .before .before .before .before .before .before .before .next-token) .ensures)) g _ _ _ _ ((c .before .before .make-one) .result) refl ((c .before .before .make-one) .ensures) (one-is (λ q. parseNode ((c .before .before .before .before .before .before .before .before .before .before .before .before .before .before .args) .depth-left) ((c .before .before .before .before .before .before .before .before .before .before .before .before .before .before .args) .s .now) q) ((c .before .before .before .before .before .before .before .before .before .before .before .before .before .before .args) .s .now) ((c .before .before .before .before .before .before .before .before .before .before .before .before .before .before .args) .p) ((c .before .before .before .before .before .before .before .before .before .before .before .next-token) .ensures) ((c .before .before .before .before .before .before .before .before .before .before .before .before .before .before .args) .k) (g .is))
+    after-one _ _ ((c .before .before .before .before .before .before .before .before .before .before .before .before .before .before .args) .p) _ _ _ _ (next-made ((c .before .before .before .before .before .before .before .before .before .before .before .before .before .before .args) .s .now) ((c .before .before .before .before .before .before .before .before .before .before .before .before .before .before .args) .p) ((c .before .before .before .before .before .before .before .before .before .before .before .next-token) .ensures)) g _ _ _ _ ((c .before .before .make-one) .result) refl ((c .before .before .make-one) .ensures) (one-is (λ q. parseNode ((c .before .before .before .before .before .before .before .before .before .before .before .before .before .before .args) .depth) ((c .before .before .before .before .before .before .before .before .before .before .before .before .before .before .args) .s .now) q) ((c .before .before .before .before .before .before .before .before .before .before .before .before .before .before .args) .s .now) ((c .before .before .before .before .before .before .before .before .before .before .before .before .before .before .args) .p) ((c .before .before .before .before .before .before .before .before .before .before .before .next-token) .ensures) ((c .before .before .before .before .before .before .before .before .before .before .before .before .before .before .args) .k) (g .is))
 
 parse-single-node-returns : (t : ℕ) → parse-single-node-lts.Need-returns (parse-single-node-calls t) (parse-single-node-at t) parse-single-node.Post
 parse-single-node-returns t c =
-    single-zero ((c .before .before .before .args) .depth-left) ((c .before .before .before .args) .s .now) ((c .before .before .before .args) .p) ((c .if1) .taken)
+    single-zero ((c .before .before .before .args) .depth) ((c .before .before .before .args) .s .now) ((c .before .before .before .args) .p) ((c .if1) .taken)
 
 parse-single-node-sub-parse-bare : (t : ℕ) → parse-single-node-lts.Need-sub-parse-bare (parse-single-node-calls t) (parse-single-node-at t) parse-single-node.Post
 parse-single-node-sub-parse-bare t c = search needs
@@ -1397,7 +1397,7 @@ parse-single-node-finish-prime-requires :
     (t : ℕ) → parse-single-node-lts.Need-finish-prime-requires (parse-single-node-calls t) (parse-single-node-at t) parse-single-node.Post
 parse-single-node-finish-prime-requires t c κs =
     let g = rw ((c .before .before .n) .given .1) at ((c .before .before .before .before .before .before .parse-bare) .ensures) in
-    let e = (ready-node ((c .before .before .before .before .before .before .parse-bare) .kept .1 .0) ((c .before .before .before .before .before .before .before .before .before .before .before .pre) .1) (bare-keeps (((c .before .before .before .before .before .before .before .before .before .before .before .args) .depth-left) - 1) ((c .before .before .before .before .before .before .before .before .before .before .before .args) .s .now)) g) in
+    let e = (ready-node ((c .before .before .before .before .before .before .parse-bare) .kept .1 .0) ((c .before .before .before .before .before .before .before .before .before .before .before .pre) .1) (bare-keeps (((c .before .before .before .before .before .before .before .before .before .before .before .args) .depth) - 1) ((c .before .before .before .before .before .before .before .before .before .before .before .args) .s .now)) g) in
     (e .sound .peek .inside, prime-free e, g .below)
 
 parse-single-node-same-length : (t : ℕ) → parse-single-node-lts.Need-same-length (parse-single-node-calls t) (parse-single-node-at t) parse-single-node.Post
@@ -1406,7 +1406,7 @@ parse-single-node-same-length t c = search needs
 parse-single-node-returns-2 : (t : ℕ) → parse-single-node-lts.Need-returns-2 (parse-single-node-calls t) (parse-single-node-at t) parse-single-node.Post
 parse-single-node-returns-2 t c =
     let g = rw ((c .before .r) .given .1) at ((c .before .before .before .before .before .parse-bare) .ensures) in
-    single-more ((c .before .before .before .before .before .before .before .before .before .before .args) .depth-left) ((c .before .before .before .before .before .before .before .before .before .before .args) .s .now) ((c .before .before .before .before .before .before .before .before .before .before .args) .p) ((c .before .before .before .before .before .before .before .if1) .left) ∙ bare-no (λ q. parseNode (((c .before .before .before .before .before .before .before .before .before .before .args) .depth-left) - 1) ((c .before .before .before .before .before .before .before .before .before .before .args) .s .now) q) (λ q. parseSingleNode (((c .before .before .before .before .before .before .before .before .before .before .args) .depth-left) - 1) ((c .before .before .before .before .before .before .before .before .before .before .args) .s .now) q) ((c .before .before .before .before .before .before .before .before .before .before .args) .s .now) ((c .before .before .before .before .before .before .before .before .before .before .args) .p) g
+    single-more ((c .before .before .before .before .before .before .before .before .before .before .args) .depth) ((c .before .before .before .before .before .before .before .before .before .before .args) .s .now) ((c .before .before .before .before .before .before .before .before .before .before .args) .p) ((c .before .before .before .before .before .before .before .if1) .left) ∙ bare-no (λ q. parseNode (((c .before .before .before .before .before .before .before .before .before .before .args) .depth) - 1) ((c .before .before .before .before .before .before .before .before .before .before .args) .s .now) q) (λ q. parseSingleNode (((c .before .before .before .before .before .before .before .before .before .before .args) .depth) - 1) ((c .before .before .before .before .before .before .before .before .before .before .args) .s .now) q) ((c .before .before .before .before .before .before .before .before .before .before .args) .s .now) ((c .before .before .before .before .before .before .before .before .before .before .args) .p) g
 
 parse-single-node-same-length-2 : (t : ℕ) → parse-single-node-lts.Need-same-length-2 (parse-single-node-calls t) (parse-single-node-at t) parse-single-node.Post
 parse-single-node-same-length-2 t c = search needs
@@ -1414,7 +1414,7 @@ parse-single-node-same-length-2 t c = search needs
 parse-single-node-returns-3 : (t : ℕ) → parse-single-node-lts.Need-returns-3 (parse-single-node-calls t) (parse-single-node-at t) parse-single-node.Post
 parse-single-node-returns-3 t c =
     let g = rw ((c .before .before .before .before .before .n) .given .1) at ((c .before .before .before .before .before .before .before .before .before .parse-bare) .ensures) in
-    after-one _ _ ((c .before .before .before .before .before .before .before .before .before .before .before .before .before .before .args) .p) _ _ _ _ refl g _ _ _ _ ((c .before .before .finish-prime) .result) refl ((c .before .before .finish-prime) .ensures) (single-more ((c .before .before .before .before .before .before .before .before .before .before .before .before .before .before .args) .depth-left) ((c .before .before .before .before .before .before .before .before .before .before .before .before .before .before .args) .s .now) ((c .before .before .before .before .before .before .before .before .before .before .before .before .before .before .args) .p) ((c .before .before .before .before .before .before .before .before .before .before .before .if1) .left) ∙ bare-is (λ q. parseNode (((c .before .before .before .before .before .before .before .before .before .before .before .before .before .before .args) .depth-left) - 1) ((c .before .before .before .before .before .before .before .before .before .before .before .before .before .before .args) .s .now) q) (λ q. parseSingleNode (((c .before .before .before .before .before .before .before .before .before .before .before .before .before .before .args) .depth-left) - 1) ((c .before .before .before .before .before .before .before .before .before .before .before .before .before .before .args) .s .now) q) ((c .before .before .before .before .before .before .before .before .before .before .before .before .before .before .args) .s .now) ((c .before .before .before .before .before .before .before .before .before .before .before .before .before .before .args) .p) (g .is))
+    after-one _ _ ((c .before .before .before .before .before .before .before .before .before .before .before .before .before .before .args) .p) _ _ _ _ refl g _ _ _ _ ((c .before .before .finish-prime) .result) refl ((c .before .before .finish-prime) .ensures) (single-more ((c .before .before .before .before .before .before .before .before .before .before .before .before .before .before .args) .depth) ((c .before .before .before .before .before .before .before .before .before .before .before .before .before .before .args) .s .now) ((c .before .before .before .before .before .before .before .before .before .before .before .before .before .before .args) .p) ((c .before .before .before .before .before .before .before .before .before .before .before .if1) .left) ∙ bare-is (λ q. parseNode (((c .before .before .before .before .before .before .before .before .before .before .before .before .before .before .args) .depth) - 1) ((c .before .before .before .before .before .before .before .before .before .before .before .before .before .before .args) .s .now) q) (λ q. parseSingleNode (((c .before .before .before .before .before .before .before .before .before .before .before .before .before .before .args) .depth) - 1) ((c .before .before .before .before .before .before .before .before .before .before .before .before .before .before .args) .s .now) q) ((c .before .before .before .before .before .before .before .before .before .before .before .before .before .before .args) .s .now) ((c .before .before .before .before .before .before .before .before .before .before .before .before .before .before .args) .p) (g .is))
 
 parse-slashed-next-token-requires : (t : ℕ) → parse-slashed-lts.Need-next-token-requires (parse-slashed-calls t) (parse-slashed-at t) parse-slashed.Post
 parse-slashed-next-token-requires t c κs = (c .before .before .pre) .1 .0 .sound .peek .inside
@@ -1437,14 +1437,14 @@ parse-slashed-enum-known-a t c = search needs
 parse-slashed-next-token-requires-3 : (t : ℕ) → parse-slashed-lts.Need-next-token-requires-3 (parse-slashed-calls t) (parse-slashed-at t) parse-slashed.Post
 parse-slashed-next-token-requires-3 t c κs =
     let g = rw ((c .before .a) .given .1) at ((c .before .before .before .before .before .parse-node) .ensures) in
-    (node-ends ((c .before .before .before .before .before .parse-node) .kept .1 .0) 5 (starts-next (ends-next (ready-ends ((c .before .before .before .before .before .before .before .before .before .before .before .pre) .1 .0) ((c .before .before .before .before .before .before .before .before .before .before .before .pre) .1 .1)) ((c .before .before .before .before .before .before .before .before .next-token) .ensures)) ((c .before .before .before .before .before .before .before .next-token2) .ensures)) (omega arith) (node-keeps ((c .before .before .before .before .before .before .before .before .before .before .before .args) .depth-left) ((c .before .before .before .before .before .before .before .before .before .before .before .args) .s .now)) g) .sound .peek .inside
+    (node-ends ((c .before .before .before .before .before .parse-node) .kept .1 .0) 5 (starts-next (ends-next (ready-ends ((c .before .before .before .before .before .before .before .before .before .before .before .pre) .1 .0) ((c .before .before .before .before .before .before .before .before .before .before .before .pre) .1 .1)) ((c .before .before .before .before .before .before .before .before .next-token) .ensures)) ((c .before .before .before .before .before .before .before .next-token2) .ensures)) (omega arith) (node-keeps ((c .before .before .before .before .before .before .before .before .before .before .before .args) .depth) ((c .before .before .before .before .before .before .before .before .before .before .before .args) .s .now)) g) .sound .peek .inside
 
 parse-slashed-make-one-requires : (t : ℕ) → parse-slashed-lts.Need-make-one-requires (parse-slashed-calls t) (parse-slashed-at t) parse-slashed.Post
 parse-slashed-make-one-requires t c κs =
     let g = rw ((c .before .before .before .a) .given .1) at ((c .before .before .before .before .before .before .before .parse-node) .ensures) in
     let b = g .below in
     let n = (next-made ((c .before .before .before .before .before .before .before .before .before .before .before .before .before .args) .s .now) _ ((c .before .next-token3) .ensures)) in
-    (starts-free 1 (ends-next (node-ends ((c .before .before .before .before .before .before .before .parse-node) .kept .1 .0) 5 (starts-next (ends-next (ready-ends ((c .before .before .before .before .before .before .before .before .before .before .before .before .before .pre) .1 .0) ((c .before .before .before .before .before .before .before .before .before .before .before .before .before .pre) .1 .1)) ((c .before .before .before .before .before .before .before .before .before .before .next-token) .ensures)) ((c .before .before .before .before .before .before .before .before .before .next-token2) .ensures)) (omega arith) (node-keeps ((c .before .before .before .before .before .before .before .before .before .before .before .before .before .args) .depth-left) ((c .before .before .before .before .before .before .before .before .before .before .before .before .before .args) .s .now)) g) ((c .before .next-token3) .ensures)) (omega arith), omega arith)
+    (starts-free 1 (ends-next (node-ends ((c .before .before .before .before .before .before .before .parse-node) .kept .1 .0) 5 (starts-next (ends-next (ready-ends ((c .before .before .before .before .before .before .before .before .before .before .before .before .before .pre) .1 .0) ((c .before .before .before .before .before .before .before .before .before .before .before .before .before .pre) .1 .1)) ((c .before .before .before .before .before .before .before .before .before .before .next-token) .ensures)) ((c .before .before .before .before .before .before .before .before .before .next-token2) .ensures)) (omega arith) (node-keeps ((c .before .before .before .before .before .before .before .before .before .before .before .before .before .args) .depth) ((c .before .before .before .before .before .before .before .before .before .before .before .before .before .args) .s .now)) g) ((c .before .next-token3) .ensures)) (omega arith), omega arith)
 
 parse-slashed-same-length : (t : ℕ) → parse-slashed-lts.Need-same-length (parse-slashed-calls t) (parse-slashed-at t) parse-slashed.Post
 parse-slashed-same-length t c = search needs
@@ -1452,7 +1452,7 @@ parse-slashed-same-length t c = search needs
 parse-slashed-returns : (t : ℕ) → parse-slashed-lts.Need-returns (parse-slashed-calls t) (parse-slashed-at t) parse-slashed.Post
 parse-slashed-returns t c =
     let g = rw ((c .before .r) .given .1) at ((c .before .before .before .before .before .parse-node) .ensures) in
-    slashed-no (λ q. parseNode ((c .before .before .before .before .before .before .before .before .before .before .before .args) .depth-left) ((c .before .before .before .before .before .before .before .before .before .before .before .args) .s .now) q) ((c .before .before .before .before .before .before .before .before .before .before .before .args) .s .now) ((c .before .before .before .before .before .before .before .before .before .before .before .args) .p) ((c .before .before .before .before .before .before .before .before .next-token) .ensures) ((c .before .before .before .before .before .before .before .next-token2) .ensures) g
+    slashed-no (λ q. parseNode ((c .before .before .before .before .before .before .before .before .before .before .before .args) .depth) ((c .before .before .before .before .before .before .before .before .before .before .before .args) .s .now) q) ((c .before .before .before .before .before .before .before .before .before .before .before .args) .s .now) ((c .before .before .before .before .before .before .before .before .before .before .before .args) .p) ((c .before .before .before .before .before .before .before .before .next-token) .ensures) ((c .before .before .before .before .before .before .before .next-token2) .ensures) g
 
 parse-slashed-same-length-2 : (t : ℕ) → parse-slashed-lts.Need-same-length-2 (parse-slashed-calls t) (parse-slashed-at t) parse-slashed.Post
 parse-slashed-same-length-2 t c = search needs
@@ -1460,7 +1460,7 @@ parse-slashed-same-length-2 t c = search needs
 parse-slashed-returns-2 : (t : ℕ) → parse-slashed-lts.Need-returns-2 (parse-slashed-calls t) (parse-slashed-at t) parse-slashed.Post
 parse-slashed-returns-2 t c =
     let g = rw ((c .before .before .before .before .before .before .a) .given .1) at ((c .before .before .before .before .before .before .before .before .before .before .parse-node) .ensures) in
-    after-one _ _ ((c .before .before .before .before .before .before .before .before .before .before .before .before .before .before .before .before .args) .p) _ _ _ _ ((next-made ((c .before .before .before .before .before .before .before .before .before .before .before .before .before .before .before .before .args) .s .now) _ ((c .before .before .before .before .before .before .before .before .before .before .before .before .next-token2) .ensures)) ∙ (next-made ((c .before .before .before .before .before .before .before .before .before .before .before .before .before .before .before .before .args) .s .now) ((c .before .before .before .before .before .before .before .before .before .before .before .before .before .before .before .before .args) .p) ((c .before .before .before .before .before .before .before .before .before .before .before .before .before .next-token) .ensures))) g _ _ _ _ ((c .before .before .make-one) .result) (next-made ((c .before .before .before .before .before .before .before .before .before .before .before .before .before .before .before .before .args) .s .now) _ ((c .before .before .before .before .next-token3) .ensures)) ((c .before .before .make-one) .ensures) (slashed-is (λ q. parseNode ((c .before .before .before .before .before .before .before .before .before .before .before .before .before .before .before .before .args) .depth-left) ((c .before .before .before .before .before .before .before .before .before .before .before .before .before .before .before .before .args) .s .now) q) ((c .before .before .before .before .before .before .before .before .before .before .before .before .before .before .before .before .args) .s .now) ((c .before .before .before .before .before .before .before .before .before .before .before .before .before .before .before .before .args) .p) ((c .before .before .before .before .before .before .before .before .before .before .before .before .before .next-token) .ensures) ((c .before .before .before .before .before .before .before .before .before .before .before .before .next-token2) .ensures) (g .is) ((c .before .before .before .before .next-token3) .ensures))
+    after-one _ _ ((c .before .before .before .before .before .before .before .before .before .before .before .before .before .before .before .before .args) .p) _ _ _ _ ((next-made ((c .before .before .before .before .before .before .before .before .before .before .before .before .before .before .before .before .args) .s .now) _ ((c .before .before .before .before .before .before .before .before .before .before .before .before .next-token2) .ensures)) ∙ (next-made ((c .before .before .before .before .before .before .before .before .before .before .before .before .before .before .before .before .args) .s .now) ((c .before .before .before .before .before .before .before .before .before .before .before .before .before .before .before .before .args) .p) ((c .before .before .before .before .before .before .before .before .before .before .before .before .before .next-token) .ensures))) g _ _ _ _ ((c .before .before .make-one) .result) (next-made ((c .before .before .before .before .before .before .before .before .before .before .before .before .before .before .before .before .args) .s .now) _ ((c .before .before .before .before .next-token3) .ensures)) ((c .before .before .make-one) .ensures) (slashed-is (λ q. parseNode ((c .before .before .before .before .before .before .before .before .before .before .before .before .before .before .before .before .args) .depth) ((c .before .before .before .before .before .before .before .before .before .before .before .before .before .before .before .before .args) .s .now) q) ((c .before .before .before .before .before .before .before .before .before .before .before .before .before .before .before .before .args) .s .now) ((c .before .before .before .before .before .before .before .before .before .before .before .before .before .before .before .before .args) .p) ((c .before .before .before .before .before .before .before .before .before .before .before .before .before .next-token) .ensures) ((c .before .before .before .before .before .before .before .before .before .before .before .before .next-token2) .ensures) (g .is) ((c .before .before .before .before .next-token3) .ensures))
 
 parse-sqrt-next-token-requires : (t : ℕ) → parse-sqrt-lts.Need-next-token-requires (parse-sqrt-calls t) (parse-sqrt-at t) parse-sqrt.Post
 parse-sqrt-next-token-requires t c κs = (c .before .before .pre) .1 .0 .sound .peek .inside
@@ -1483,7 +1483,7 @@ parse-sqrt-same-length t c = search needs
 parse-sqrt-returns : (t : ℕ) → parse-sqrt-lts.Need-returns (parse-sqrt-calls t) (parse-sqrt-at t) parse-sqrt.Post
 parse-sqrt-returns t c =
     let g = rw ((c .before .r) .given .1) at ((c .before .before .before .before .before .parse-group) .ensures) in
-    root-no (λ q. parseNode ((c .before .before .before .before .before .before .before .before .before .before .before .before .args) .depth-left) ((c .before .before .before .before .before .before .before .before .before .before .before .before .args) .s .now) q) ((c .before .before .before .before .before .before .before .before .before .before .before .before .args) .s .now) ((c .before .before .before .before .before .before .before .before .before .before .before .before .args) .p) ((c .before .before .before .before .before .before .before .before .before .next-token) .ensures) (sym ((c .before .before .before .before .before .before .before .before .cur-token-is) .ensures) ∙ (c .before .before .before .before .before .before .before .if1) .taken) g
+    root-no (λ q. parseNode ((c .before .before .before .before .before .before .before .before .before .before .before .before .args) .depth) ((c .before .before .before .before .before .before .before .before .before .before .before .before .args) .s .now) q) ((c .before .before .before .before .before .before .before .before .before .before .before .before .args) .s .now) ((c .before .before .before .before .before .before .before .before .before .before .before .before .args) .p) ((c .before .before .before .before .before .before .before .before .before .next-token) .ensures) (sym ((c .before .before .before .before .before .before .before .before .cur-token-is) .ensures) ∙ (c .before .before .before .before .before .before .before .if1) .taken) g
 
 parse-sqrt-enum-known-degree : (t : ℕ) → parse-sqrt-lts.Need-enum-known-degree (parse-sqrt-calls t) (parse-sqrt-at t) parse-sqrt.Post
 parse-sqrt-enum-known-degree t c = search needs
@@ -1492,14 +1492,14 @@ parse-sqrt-next-token-requires-2 : (t : ℕ) → parse-sqrt-lts.Need-next-token-
 unfolding markNumber
 parse-sqrt-next-token-requires-2 t c κs =
     let g = rw ((c .before .degree) .given .1) at ((c .before .before .before .before .before .parse-group) .ensures) in
-    (group-ends ((c .before .before .before .before .before .parse-group) .kept .1 .0) Mark.RBracket (ends-next (ready-ends ((c .before .before .before .before .before .before .before .before .before .before .before .before .pre) .1 .0) ((c .before .before .before .before .before .before .before .before .before .before .before .before .pre) .1 .1)) ((c .before .before .before .before .before .before .before .before .before .next-token) .ensures)) (node-keeps ((c .before .before .before .before .before .before .before .before .before .before .before .before .args) .depth-left) ((c .before .before .before .before .before .before .before .before .before .before .before .before .args) .s .now)) (lit≤ tt) g) .sound .peek .inside
+    (group-ends ((c .before .before .before .before .before .parse-group) .kept .1 .0) Mark.RBracket (ends-next (ready-ends ((c .before .before .before .before .before .before .before .before .before .before .before .before .pre) .1 .0) ((c .before .before .before .before .before .before .before .before .before .before .before .before .pre) .1 .1)) ((c .before .before .before .before .before .before .before .before .before .next-token) .ensures)) (node-keeps ((c .before .before .before .before .before .before .before .before .before .before .before .before .args) .depth) ((c .before .before .before .before .before .before .before .before .before .before .before .before .args) .s .now)) (lit≤ tt) g) .sound .peek .inside
 
 parse-sqrt-parse-node-requires : (t : ℕ) → parse-sqrt-lts.Need-parse-node-requires (parse-sqrt-calls t) (parse-sqrt-at t) parse-sqrt.Post
 unfolding markNumber
 parse-sqrt-parse-node-requires t c κs =
     let m = (c .before .before .before .before .before .before .before .before .before .before .before .before .before .before .pre) .0 in
     let g = rw ((c .before .before .before .degree) .given .1) at ((c .before .before .before .before .before .before .before .parse-group) .ensures) in
-    (omega arith, starts-ready (ends-next (group-ends ((c .before .before .before .before .before .before .before .parse-group) .kept .1 .0) Mark.RBracket (ends-next (ready-ends ((c .before .before .before .before .before .before .before .before .before .before .before .before .before .before .pre) .1 .0) ((c .before .before .before .before .before .before .before .before .before .before .before .before .before .before .pre) .1 .1)) ((c .before .before .before .before .before .before .before .before .before .before .before .next-token) .ensures)) (node-keeps ((c .before .before .before .before .before .before .before .before .before .before .before .before .before .before .args) .depth-left) ((c .before .before .before .before .before .before .before .before .before .before .before .before .before .before .args) .s .now)) (lit≤ tt) g) ((c .before .next-token2) .ensures)) (omega arith))
+    (omega arith, starts-ready (ends-next (group-ends ((c .before .before .before .before .before .before .before .parse-group) .kept .1 .0) Mark.RBracket (ends-next (ready-ends ((c .before .before .before .before .before .before .before .before .before .before .before .before .before .before .pre) .1 .0) ((c .before .before .before .before .before .before .before .before .before .before .before .before .before .before .pre) .1 .1)) ((c .before .before .before .before .before .before .before .before .before .before .before .next-token) .ensures)) (node-keeps ((c .before .before .before .before .before .before .before .before .before .before .before .before .before .before .args) .depth) ((c .before .before .before .before .before .before .before .before .before .before .before .before .before .before .args) .s .now)) (lit≤ tt) g) ((c .before .next-token2) .ensures)) (omega arith))
 
 parse-sqrt-enum-known-r-2 : (t : ℕ) → parse-sqrt-lts.Need-enum-known-r-2 (parse-sqrt-calls t) (parse-sqrt-at t) parse-sqrt.Post
 parse-sqrt-enum-known-r-2 t c = search needs
@@ -1511,7 +1511,7 @@ parse-sqrt-returns-2 : (t : ℕ) → parse-sqrt-lts.Need-returns-2 (parse-sqrt-c
 parse-sqrt-returns-2 t c =
     let g = rw ((c .before .before .before .before .before .before .before .before .before .degree) .given .1) at ((c .before .before .before .before .before .before .before .before .before .before .before .before .before .parse-group) .ensures) in
     let h = rw ((c .before .r2) .given .1) at ((c .before .before .before .before .before .parse-node) .ensures) in
-    root-no-2 (λ q. parseNode ((c .before .before .before .before .before .before .before .before .before .before .before .before .before .before .before .before .before .before .before .before .args) .depth-left) ((c .before .before .before .before .before .before .before .before .before .before .before .before .before .before .before .before .before .before .before .before .args) .s .now) q) ((c .before .before .before .before .before .before .before .before .before .before .before .before .before .before .before .before .before .before .before .before .args) .s .now) ((c .before .before .before .before .before .before .before .before .before .before .before .before .before .before .before .before .before .before .before .before .args) .p) ((c .before .before .before .before .before .before .before .before .before .before .before .before .before .before .before .before .before .next-token) .ensures) (sym ((c .before .before .before .before .before .before .before .before .before .before .before .before .before .before .before .before .cur-token-is) .ensures) ∙ (c .before .before .before .before .before .before .before .before .before .before .before .before .before .before .before .if1) .taken) (g .is) ((c .before .before .before .before .before .before .before .next-token2) .ensures) h
+    root-no-2 (λ q. parseNode ((c .before .before .before .before .before .before .before .before .before .before .before .before .before .before .before .before .before .before .before .before .args) .depth) ((c .before .before .before .before .before .before .before .before .before .before .before .before .before .before .before .before .before .before .before .before .args) .s .now) q) ((c .before .before .before .before .before .before .before .before .before .before .before .before .before .before .before .before .before .before .before .before .args) .s .now) ((c .before .before .before .before .before .before .before .before .before .before .before .before .before .before .before .before .before .before .before .before .args) .p) ((c .before .before .before .before .before .before .before .before .before .before .before .before .before .before .before .before .before .next-token) .ensures) (sym ((c .before .before .before .before .before .before .before .before .before .before .before .before .before .before .before .before .cur-token-is) .ensures) ∙ (c .before .before .before .before .before .before .before .before .before .before .before .before .before .before .before .if1) .taken) (g .is) ((c .before .before .before .before .before .before .before .next-token2) .ensures) h
 
 parse-sqrt-enum-known-content : (t : ℕ) → parse-sqrt-lts.Need-enum-known-content (parse-sqrt-calls t) (parse-sqrt-at t) parse-sqrt.Post
 parse-sqrt-enum-known-content t c = search needs
@@ -1521,7 +1521,7 @@ unfolding markNumber
 parse-sqrt-make-two-requires t c κs =
     let g = rw ((c .before .before .before .before .before .before .before .before .before .before .degree) .given .1) at ((c .before .before .before .before .before .before .before .before .before .before .before .before .before .before .parse-group) .ensures) in
     let h = rw ((c .before .before .content) .given .1) at ((c .before .before .before .before .before .before .parse-node) .ensures) in
-    (ends-free 1 (node-ends ((c .before .before .before .before .before .before .parse-node) .kept .1 .0) 5 (ends-next (group-ends ((c .before .before .before .before .before .before .before .before .before .before .before .before .before .before .parse-group) .kept .1 .0) Mark.RBracket (ends-next (ready-ends ((c .before .before .before .before .before .before .before .before .before .before .before .before .before .before .before .before .before .before .before .before .before .pre) .1 .0) ((c .before .before .before .before .before .before .before .before .before .before .before .before .before .before .before .before .before .before .before .before .before .pre) .1 .1)) ((c .before .before .before .before .before .before .before .before .before .before .before .before .before .before .before .before .before .before .next-token) .ensures)) (node-keeps ((c .before .before .before .before .before .before .before .before .before .before .before .before .before .before .before .before .before .before .before .before .before .args) .depth-left) ((c .before .before .before .before .before .before .before .before .before .before .before .before .before .before .before .before .before .before .before .before .before .args) .s .now)) (lit≤ tt) g) ((c .before .before .before .before .before .before .before .before .next-token2) .ensures)) (omega arith) (node-keeps ((c .before .before .before .before .before .before .before .before .before .before .before .before .before .before .before .before .before .before .before .before .before .args) .depth-left) ((c .before .before .before .before .before .before .before .before .before .before .before .before .before .before .before .before .before .before .before .before .before .args) .s .now)) h) (omega arith), h .below, first-below _ _ ((c .before .before .before .before .before .before .before .before .before .before .before .before .before .before .before .before .before .before .before .before .before .args) .p) _ _ _ _ (next-made ((c .before .before .before .before .before .before .before .before .before .before .before .before .before .before .before .before .before .before .before .before .before .args) .s .now) ((c .before .before .before .before .before .before .before .before .before .before .before .before .before .before .before .before .before .before .before .before .before .args) .p) ((c .before .before .before .before .before .before .before .before .before .before .before .before .before .before .before .before .before .before .next-token) .ensures)) g _ _ _ _ _ (next-made ((c .before .before .before .before .before .before .before .before .before .before .before .before .before .before .before .before .before .before .before .before .before .args) .s .now) _ ((c .before .before .before .before .before .before .before .before .next-token2) .ensures)) h)
+    (ends-free 1 (node-ends ((c .before .before .before .before .before .before .parse-node) .kept .1 .0) 5 (ends-next (group-ends ((c .before .before .before .before .before .before .before .before .before .before .before .before .before .before .parse-group) .kept .1 .0) Mark.RBracket (ends-next (ready-ends ((c .before .before .before .before .before .before .before .before .before .before .before .before .before .before .before .before .before .before .before .before .before .pre) .1 .0) ((c .before .before .before .before .before .before .before .before .before .before .before .before .before .before .before .before .before .before .before .before .before .pre) .1 .1)) ((c .before .before .before .before .before .before .before .before .before .before .before .before .before .before .before .before .before .before .next-token) .ensures)) (node-keeps ((c .before .before .before .before .before .before .before .before .before .before .before .before .before .before .before .before .before .before .before .before .before .args) .depth) ((c .before .before .before .before .before .before .before .before .before .before .before .before .before .before .before .before .before .before .before .before .before .args) .s .now)) (lit≤ tt) g) ((c .before .before .before .before .before .before .before .before .next-token2) .ensures)) (omega arith) (node-keeps ((c .before .before .before .before .before .before .before .before .before .before .before .before .before .before .before .before .before .before .before .before .before .args) .depth) ((c .before .before .before .before .before .before .before .before .before .before .before .before .before .before .before .before .before .before .before .before .before .args) .s .now)) h) (omega arith), h .below, first-below _ _ ((c .before .before .before .before .before .before .before .before .before .before .before .before .before .before .before .before .before .before .before .before .before .args) .p) _ _ _ _ (next-made ((c .before .before .before .before .before .before .before .before .before .before .before .before .before .before .before .before .before .before .before .before .before .args) .s .now) ((c .before .before .before .before .before .before .before .before .before .before .before .before .before .before .before .before .before .before .before .before .before .args) .p) ((c .before .before .before .before .before .before .before .before .before .before .before .before .before .before .before .before .before .before .next-token) .ensures)) g _ _ _ _ _ (next-made ((c .before .before .before .before .before .before .before .before .before .before .before .before .before .before .before .before .before .before .before .before .before .args) .s .now) _ ((c .before .before .before .before .before .before .before .before .next-token2) .ensures)) h)
 
 parse-sqrt-same-length-3 : (t : ℕ) → parse-sqrt-lts.Need-same-length-3 (parse-sqrt-calls t) (parse-sqrt-at t) parse-sqrt.Post
 parse-sqrt-same-length-3 t c = search needs
@@ -1530,7 +1530,7 @@ parse-sqrt-returns-3 : (t : ℕ) → parse-sqrt-lts.Need-returns-3 (parse-sqrt-c
 parse-sqrt-returns-3 t c =
     let g = rw ((c .before .before .before .before .before .before .before .before .before .before .before .before .before .degree) .given .1) at ((c .before .before .before .before .before .before .before .before .before .before .before .before .before .before .before .before .before .parse-group) .ensures) in
     let h = rw ((c .before .before .before .before .before .content) .given .1) at ((c .before .before .before .before .before .before .before .before .before .parse-node) .ensures) in
-    after-two-swapped _ _ ((c .before .before .before .before .before .before .before .before .before .before .before .before .before .before .before .before .before .before .before .before .before .before .before .before .args) .p) _ _ _ _ (next-made ((c .before .before .before .before .before .before .before .before .before .before .before .before .before .before .before .before .before .before .before .before .before .before .before .before .args) .s .now) ((c .before .before .before .before .before .before .before .before .before .before .before .before .before .before .before .before .before .before .before .before .before .before .before .before .args) .p) ((c .before .before .before .before .before .before .before .before .before .before .before .before .before .before .before .before .before .before .before .before .before .next-token) .ensures)) g _ _ _ _ _ (next-made ((c .before .before .before .before .before .before .before .before .before .before .before .before .before .before .before .before .before .before .before .before .before .before .before .before .args) .s .now) _ ((c .before .before .before .before .before .before .before .before .before .before .before .next-token2) .ensures)) h _ _ _ _ ((c .before .before .make-two) .result) refl ((c .before .before .make-two) .ensures) (root-is (λ q. parseNode ((c .before .before .before .before .before .before .before .before .before .before .before .before .before .before .before .before .before .before .before .before .before .before .before .before .args) .depth-left) ((c .before .before .before .before .before .before .before .before .before .before .before .before .before .before .before .before .before .before .before .before .before .before .before .before .args) .s .now) q) ((c .before .before .before .before .before .before .before .before .before .before .before .before .before .before .before .before .before .before .before .before .before .before .before .before .args) .s .now) ((c .before .before .before .before .before .before .before .before .before .before .before .before .before .before .before .before .before .before .before .before .before .before .before .before .args) .p) ((c .before .before .before .before .before .before .before .before .before .before .before .before .before .before .before .before .before .before .before .before .before .next-token) .ensures) (sym ((c .before .before .before .before .before .before .before .before .before .before .before .before .before .before .before .before .before .before .before .before .cur-token-is) .ensures) ∙ (c .before .before .before .before .before .before .before .before .before .before .before .before .before .before .before .before .before .before .before .if1) .taken) (g .is) ((c .before .before .before .before .before .before .before .before .before .before .before .next-token2) .ensures) (h .is))
+    after-two-swapped _ _ ((c .before .before .before .before .before .before .before .before .before .before .before .before .before .before .before .before .before .before .before .before .before .before .before .before .args) .p) _ _ _ _ (next-made ((c .before .before .before .before .before .before .before .before .before .before .before .before .before .before .before .before .before .before .before .before .before .before .before .before .args) .s .now) ((c .before .before .before .before .before .before .before .before .before .before .before .before .before .before .before .before .before .before .before .before .before .before .before .before .args) .p) ((c .before .before .before .before .before .before .before .before .before .before .before .before .before .before .before .before .before .before .before .before .before .next-token) .ensures)) g _ _ _ _ _ (next-made ((c .before .before .before .before .before .before .before .before .before .before .before .before .before .before .before .before .before .before .before .before .before .before .before .before .args) .s .now) _ ((c .before .before .before .before .before .before .before .before .before .before .before .next-token2) .ensures)) h _ _ _ _ ((c .before .before .make-two) .result) refl ((c .before .before .make-two) .ensures) (root-is (λ q. parseNode ((c .before .before .before .before .before .before .before .before .before .before .before .before .before .before .before .before .before .before .before .before .before .before .before .before .args) .depth) ((c .before .before .before .before .before .before .before .before .before .before .before .before .before .before .before .before .before .before .before .before .before .before .before .before .args) .s .now) q) ((c .before .before .before .before .before .before .before .before .before .before .before .before .before .before .before .before .before .before .before .before .before .before .before .before .args) .s .now) ((c .before .before .before .before .before .before .before .before .before .before .before .before .before .before .before .before .before .before .before .before .before .before .before .before .args) .p) ((c .before .before .before .before .before .before .before .before .before .before .before .before .before .before .before .before .before .before .before .before .before .next-token) .ensures) (sym ((c .before .before .before .before .before .before .before .before .before .before .before .before .before .before .before .before .before .before .before .before .cur-token-is) .ensures) ∙ (c .before .before .before .before .before .before .before .before .before .before .before .before .before .before .before .before .before .before .before .if1) .taken) (g .is) ((c .before .before .before .before .before .before .before .before .before .before .before .next-token2) .ensures) (h .is))
 
 parse-sqrt-parse-node-requires-2 : (t : ℕ) → parse-sqrt-lts.Need-parse-node-requires-2 (parse-sqrt-calls t) (parse-sqrt-at t) parse-sqrt.Post
 parse-sqrt-parse-node-requires-2 t c κs =
@@ -1546,7 +1546,7 @@ parse-sqrt-enum-known-content-2 t c = search needs
 parse-sqrt-make-one-requires : (t : ℕ) → parse-sqrt-lts.Need-make-one-requires (parse-sqrt-calls t) (parse-sqrt-at t) parse-sqrt.Post
 parse-sqrt-make-one-requires t c κs =
     let g = rw ((c .before .before .content2) .given .1) at ((c .before .before .before .before .before .before .parse-node2) .ensures) in
-    (ends-free 1 (node-ends ((c .before .before .before .before .before .before .parse-node2) .kept .1 .0) 5 (ends-next (ready-ends ((c .before .before .before .before .before .before .before .before .before .before .before .before .before .pre) .1 .0) ((c .before .before .before .before .before .before .before .before .before .before .before .before .before .pre) .1 .1)) ((c .before .before .before .before .before .before .before .before .before .before .next-token) .ensures)) (omega arith) (node-keeps ((c .before .before .before .before .before .before .before .before .before .before .before .before .before .args) .depth-left) ((c .before .before .before .before .before .before .before .before .before .before .before .before .before .args) .s .now)) g) (omega arith), g .below)
+    (ends-free 1 (node-ends ((c .before .before .before .before .before .before .parse-node2) .kept .1 .0) 5 (ends-next (ready-ends ((c .before .before .before .before .before .before .before .before .before .before .before .before .before .pre) .1 .0) ((c .before .before .before .before .before .before .before .before .before .before .before .before .before .pre) .1 .1)) ((c .before .before .before .before .before .before .before .before .before .before .next-token) .ensures)) (omega arith) (node-keeps ((c .before .before .before .before .before .before .before .before .before .before .before .before .before .args) .depth) ((c .before .before .before .before .before .before .before .before .before .before .before .before .before .args) .s .now)) g) (omega arith), g .below)
 
 parse-sqrt-same-length-4 : (t : ℕ) → parse-sqrt-lts.Need-same-length-4 (parse-sqrt-calls t) (parse-sqrt-at t) parse-sqrt.Post
 parse-sqrt-same-length-4 t c = search needs
@@ -1554,7 +1554,7 @@ parse-sqrt-same-length-4 t c = search needs
 parse-sqrt-returns-4 : (t : ℕ) → parse-sqrt-lts.Need-returns-4 (parse-sqrt-calls t) (parse-sqrt-at t) parse-sqrt.Post
 parse-sqrt-returns-4 t c =
     let g = rw ((c .before .r3) .given .1) at ((c .before .before .before .before .before .parse-node2) .ensures) in
-    sqrt-no (λ q. parseNode ((c .before .before .before .before .before .before .before .before .before .before .before .before .args) .depth-left) ((c .before .before .before .before .before .before .before .before .before .before .before .before .args) .s .now) q) ((c .before .before .before .before .before .before .before .before .before .before .before .before .args) .s .now) ((c .before .before .before .before .before .before .before .before .before .before .before .before .args) .p) ((c .before .before .before .before .before .before .before .before .before .next-token) .ensures) (sym ((c .before .before .before .before .before .before .before .before .cur-token-is) .ensures) ∙ (c .before .before .before .before .before .before .before .if1) .left) g
+    sqrt-no (λ q. parseNode ((c .before .before .before .before .before .before .before .before .before .before .before .before .args) .depth) ((c .before .before .before .before .before .before .before .before .before .before .before .before .args) .s .now) q) ((c .before .before .before .before .before .before .before .before .before .before .before .before .args) .s .now) ((c .before .before .before .before .before .before .before .before .before .before .before .before .args) .p) ((c .before .before .before .before .before .before .before .before .before .next-token) .ensures) (sym ((c .before .before .before .before .before .before .before .before .cur-token-is) .ensures) ∙ (c .before .before .before .before .before .before .before .if1) .left) g
 
 parse-sqrt-same-length-5 : (t : ℕ) → parse-sqrt-lts.Need-same-length-5 (parse-sqrt-calls t) (parse-sqrt-at t) parse-sqrt.Post
 parse-sqrt-same-length-5 t c = search needs
@@ -1562,7 +1562,7 @@ parse-sqrt-same-length-5 t c = search needs
 parse-sqrt-returns-5 : (t : ℕ) → parse-sqrt-lts.Need-returns-5 (parse-sqrt-calls t) (parse-sqrt-at t) parse-sqrt.Post
 parse-sqrt-returns-5 t c =
     let g = rw ((c .before .before .before .before .before .content2) .given .1) at ((c .before .before .before .before .before .before .before .before .before .parse-node2) .ensures) in
-    after-one _ _ ((c .before .before .before .before .before .before .before .before .before .before .before .before .before .before .before .before .args) .p) _ _ _ _ (next-made ((c .before .before .before .before .before .before .before .before .before .before .before .before .before .before .before .before .args) .s .now) ((c .before .before .before .before .before .before .before .before .before .before .before .before .before .before .before .before .args) .p) ((c .before .before .before .before .before .before .before .before .before .before .before .before .before .next-token) .ensures)) g _ _ _ _ ((c .before .before .make-one) .result) refl ((c .before .before .make-one) .ensures) (sqrt-is (λ q. parseNode ((c .before .before .before .before .before .before .before .before .before .before .before .before .before .before .before .before .args) .depth-left) ((c .before .before .before .before .before .before .before .before .before .before .before .before .before .before .before .before .args) .s .now) q) ((c .before .before .before .before .before .before .before .before .before .before .before .before .before .before .before .before .args) .s .now) ((c .before .before .before .before .before .before .before .before .before .before .before .before .before .before .before .before .args) .p) ((c .before .before .before .before .before .before .before .before .before .before .before .before .before .next-token) .ensures) (sym ((c .before .before .before .before .before .before .before .before .before .before .before .before .cur-token-is) .ensures) ∙ (c .before .before .before .before .before .before .before .before .before .before .before .if1) .left) (g .is))
+    after-one _ _ ((c .before .before .before .before .before .before .before .before .before .before .before .before .before .before .before .before .args) .p) _ _ _ _ (next-made ((c .before .before .before .before .before .before .before .before .before .before .before .before .before .before .before .before .args) .s .now) ((c .before .before .before .before .before .before .before .before .before .before .before .before .before .before .before .before .args) .p) ((c .before .before .before .before .before .before .before .before .before .before .before .before .before .next-token) .ensures)) g _ _ _ _ ((c .before .before .make-one) .result) refl ((c .before .before .make-one) .ensures) (sqrt-is (λ q. parseNode ((c .before .before .before .before .before .before .before .before .before .before .before .before .before .before .before .before .args) .depth) ((c .before .before .before .before .before .before .before .before .before .before .before .before .before .before .before .before .args) .s .now) q) ((c .before .before .before .before .before .before .before .before .before .before .before .before .before .before .before .before .args) .s .now) ((c .before .before .before .before .before .before .before .before .before .before .before .before .before .before .before .before .args) .p) ((c .before .before .before .before .before .before .before .before .before .before .before .before .before .next-token) .ensures) (sym ((c .before .before .before .before .before .before .before .before .before .before .before .before .cur-token-is) .ensures) ∙ (c .before .before .before .before .before .before .before .before .before .before .before .if1) .left) (g .is))
 
 parse-style-next-token-requires : (t : ℕ) → parse-style-lts.Need-next-token-requires (parse-style-calls t) (parse-style-at t) parse-style.Post
 parse-style-next-token-requires t c κs = (c .before .before .pre) .1 .0 .sound .peek .inside
@@ -1581,7 +1581,7 @@ parse-style-enum-known-i t c = search needs
 parse-style-set-variant-requires : (t : ℕ) → parse-style-lts.Need-set-variant-requires (parse-style-calls t) (parse-style-at t) parse-style.Post
 parse-style-set-variant-requires t c κs =
     let g = rw ((c .before .before .i) .given .1) at ((c .before .before .before .before .before .before .parse-node) .ensures) in
-    let e = ends-free 0 (node-ends ((c .before .before .before .before .before .before .parse-node) .kept .1 .0) 5 (ends-next (ready-ends ((c .before .before .before .before .before .before .before .before .before .before .before .pre) .1 .0) ((c .before .before .before .before .before .before .before .before .before .before .before .pre) .1 .1)) ((c .before .before .before .before .before .before .before .before .next-token) .ensures)) (omega arith) (node-keeps ((c .before .before .before .before .before .before .before .before .before .before .before .args) .depth-left) ((c .before .before .before .before .before .before .before .before .before .before .before .args) .s .now)) g) (omega arith) in
+    let e = ends-free 0 (node-ends ((c .before .before .before .before .before .before .parse-node) .kept .1 .0) 5 (ends-next (ready-ends ((c .before .before .before .before .before .before .before .before .before .before .before .pre) .1 .0) ((c .before .before .before .before .before .before .before .before .before .before .before .pre) .1 .1)) ((c .before .before .before .before .before .before .before .before .next-token) .ensures)) (omega arith) (node-keeps ((c .before .before .before .before .before .before .before .before .before .before .before .args) .depth) ((c .before .before .before .before .before .before .before .before .before .before .before .args) .s .now)) g) (omega arith) in
     let b = g .below in
     let f = e .fits in
     (record { lo = _; tree = g .tree; held = g .held; fits = omega arith }, b)
@@ -1592,7 +1592,7 @@ parse-style-same-length t c = search needs
 parse-style-returns : (t : ℕ) → parse-style-lts.Need-returns (parse-style-calls t) (parse-style-at t) parse-style.Post
 parse-style-returns t c =
     let g = rw ((c .before .r) .given .1) at ((c .before .before .before .before .before .parse-node) .ensures) in
-    style-no (λ q. parseNode ((c .before .before .before .before .before .before .before .before .before .before .args) .depth-left) ((c .before .before .before .before .before .before .before .before .before .before .args) .s .now) q) ((c .before .before .before .before .before .before .before .before .before .before .args) .s .now) ((c .before .before .before .before .before .before .before .before .before .before .args) .p) ((c .before .before .before .before .before .before .before .next-token) .ensures) ((c .before .before .before .before .before .before .before .before .before .before .args) .v) g
+    style-no (λ q. parseNode ((c .before .before .before .before .before .before .before .before .before .before .args) .depth) ((c .before .before .before .before .before .before .before .before .before .before .args) .s .now) q) ((c .before .before .before .before .before .before .before .before .before .before .args) .s .now) ((c .before .before .before .before .before .before .before .before .before .before .args) .p) ((c .before .before .before .before .before .before .before .next-token) .ensures) ((c .before .before .before .before .before .before .before .before .before .before .args) .v) g
 
 parse-style-same-length-2 : (t : ℕ) → parse-style-lts.Need-same-length-2 (parse-style-calls t) (parse-style-at t) parse-style.Post
 parse-style-same-length-2 t c = search needs
@@ -1600,7 +1600,7 @@ parse-style-same-length-2 t c = search needs
 parse-style-returns-2 : (t : ℕ) → parse-style-lts.Need-returns-2 (parse-style-calls t) (parse-style-at t) parse-style.Post
 parse-style-returns-2 t c =
     let g = rw ((c .before .before .before .before .before .i) .given .1) at ((c .before .before .before .before .before .before .before .before .before .parse-node) .ensures) in
-    after-set _ _ _ ((c .before .before .before .before .before .before .before .before .before .before .before .before .before .before .args) .p) _ _ _ _ _ ((c .before .before .before .before .before .before .before .before .before .before .before .before .before .before .args) .v) (next-made ((c .before .before .before .before .before .before .before .before .before .before .before .before .before .before .args) .s .now) ((c .before .before .before .before .before .before .before .before .before .before .before .before .before .before .args) .p) ((c .before .before .before .before .before .before .before .before .before .before .before .next-token) .ensures)) g ((c .before .before .set-variant) .ensures) (style-is (λ q. parseNode ((c .before .before .before .before .before .before .before .before .before .before .before .before .before .before .args) .depth-left) ((c .before .before .before .before .before .before .before .before .before .before .before .before .before .before .args) .s .now) q) ((c .before .before .before .before .before .before .before .before .before .before .before .before .before .before .args) .s .now) ((c .before .before .before .before .before .before .before .before .before .before .before .before .before .before .args) .p) ((c .before .before .before .before .before .before .before .before .before .before .before .next-token) .ensures) ((c .before .before .before .before .before .before .before .before .before .before .before .before .before .before .args) .v) (g .is))
+    after-set _ _ _ ((c .before .before .before .before .before .before .before .before .before .before .before .before .before .before .args) .p) _ _ _ _ _ ((c .before .before .before .before .before .before .before .before .before .before .before .before .before .before .args) .v) (next-made ((c .before .before .before .before .before .before .before .before .before .before .before .before .before .before .args) .s .now) ((c .before .before .before .before .before .before .before .before .before .before .before .before .before .before .args) .p) ((c .before .before .before .before .before .before .before .before .before .before .before .next-token) .ensures)) g ((c .before .before .set-variant) .ensures) (style-is (λ q. parseNode ((c .before .before .before .before .before .before .before .before .before .before .before .before .before .before .args) .depth) ((c .before .before .before .before .before .before .before .before .before .before .before .before .before .before .args) .s .now) q) ((c .before .before .before .before .before .before .before .before .before .before .before .before .before .before .args) .s .now) ((c .before .before .before .before .before .before .before .before .before .before .before .before .before .before .args) .p) ((c .before .before .before .before .before .before .before .before .before .before .before .next-token) .ensures) ((c .before .before .before .before .before .before .before .before .before .before .before .before .before .before .args) .v) (g .is))
 
 parse-two-next-token-requires : (t : ℕ) → parse-two-lts.Need-next-token-requires (parse-two-calls t) (parse-two-at t) parse-two.Post
 parse-two-next-token-requires t c κs = (c .before .before .pre) .1 .0 .sound .peek .inside
@@ -1619,13 +1619,13 @@ parse-two-enum-known-a t c = search needs
 parse-two-next-token-requires-2 : (t : ℕ) → parse-two-lts.Need-next-token-requires-2 (parse-two-calls t) (parse-two-at t) parse-two.Post
 parse-two-next-token-requires-2 t c κs =
     let g = rw ((c .before .a) .given .1) at ((c .before .before .before .before .before .parse-node) .ensures) in
-    (node-ends ((c .before .before .before .before .before .parse-node) .kept .1 .0) 5 (ends-next (ready-ends ((c .before .before .before .before .before .before .before .before .before .before .pre) .1 .0) ((c .before .before .before .before .before .before .before .before .before .before .pre) .1 .1)) ((c .before .before .before .before .before .before .before .next-token) .ensures)) (omega arith) (node-keeps ((c .before .before .before .before .before .before .before .before .before .before .args) .depth-left) ((c .before .before .before .before .before .before .before .before .before .before .args) .s .now)) g) .sound .peek .inside
+    (node-ends ((c .before .before .before .before .before .parse-node) .kept .1 .0) 5 (ends-next (ready-ends ((c .before .before .before .before .before .before .before .before .before .before .pre) .1 .0) ((c .before .before .before .before .before .before .before .before .before .before .pre) .1 .1)) ((c .before .before .before .before .before .before .before .next-token) .ensures)) (omega arith) (node-keeps ((c .before .before .before .before .before .before .before .before .before .before .args) .depth) ((c .before .before .before .before .before .before .before .before .before .before .args) .s .now)) g) .sound .peek .inside
 
 parse-two-parse-node-requires-2 : (t : ℕ) → parse-two-lts.Need-parse-node-requires-2 (parse-two-calls t) (parse-two-at t) parse-two.Post
 parse-two-parse-node-requires-2 t c κs =
     let m = (c .before .before .before .before .before .before .before .before .before .before .before .before .pre) .0 in
     let g = rw ((c .before .before .before .a) .given .1) at ((c .before .before .before .before .before .before .before .parse-node) .ensures) in
-    (omega arith, starts-ready (ends-next (node-ends ((c .before .before .before .before .before .before .before .parse-node) .kept .1 .0) 5 (ends-next (ready-ends ((c .before .before .before .before .before .before .before .before .before .before .before .before .pre) .1 .0) ((c .before .before .before .before .before .before .before .before .before .before .before .before .pre) .1 .1)) ((c .before .before .before .before .before .before .before .before .before .next-token) .ensures)) (omega arith) (node-keeps ((c .before .before .before .before .before .before .before .before .before .before .before .before .args) .depth-left) ((c .before .before .before .before .before .before .before .before .before .before .before .before .args) .s .now)) g) ((c .before .next-token2) .ensures)) (omega arith))
+    (omega arith, starts-ready (ends-next (node-ends ((c .before .before .before .before .before .before .before .parse-node) .kept .1 .0) 5 (ends-next (ready-ends ((c .before .before .before .before .before .before .before .before .before .before .before .before .pre) .1 .0) ((c .before .before .before .before .before .before .before .before .before .before .before .before .pre) .1 .1)) ((c .before .before .before .before .before .before .before .before .before .next-token) .ensures)) (omega arith) (node-keeps ((c .before .before .before .before .before .before .before .before .before .before .before .before .args) .depth) ((c .before .before .before .before .before .before .before .before .before .before .before .before .args) .s .now)) g) ((c .before .next-token2) .ensures)) (omega arith))
 
 parse-two-enum-known-r-2 : (t : ℕ) → parse-two-lts.Need-enum-known-r-2 (parse-two-calls t) (parse-two-at t) parse-two.Post
 parse-two-enum-known-r-2 t c = search needs
@@ -1637,7 +1637,7 @@ parse-two-make-pair-requires : (t : ℕ) → parse-two-lts.Need-make-pair-requir
 parse-two-make-pair-requires t c κs =
     let g = rw ((c .before .before .before .before .before .before .before .before .before .before .a) .given .1) at ((c .before .before .before .before .before .before .before .before .before .before .before .before .before .before .parse-node) .ensures) in
     let h = rw ((c .before .before .b) .given .1) at ((c .before .before .before .before .before .before .parse-node2) .ensures) in
-    (ends-free 4 (node-ends ((c .before .before .before .before .before .before .parse-node2) .kept .1 .0) 4 (ends-next (node-ends ((c .before .before .before .before .before .before .before .before .before .before .before .before .before .before .parse-node) .kept .1 .0) 5 (ends-next (ready-ends ((c .before .before .before .before .before .before .before .before .before .before .before .before .before .before .before .before .before .before .before .pre) .1 .0) ((c .before .before .before .before .before .before .before .before .before .before .before .before .before .before .before .before .before .before .before .pre) .1 .1)) ((c .before .before .before .before .before .before .before .before .before .before .before .before .before .before .before .before .next-token) .ensures)) (omega arith) (node-keeps ((c .before .before .before .before .before .before .before .before .before .before .before .before .before .before .before .before .before .before .before .args) .depth-left) ((c .before .before .before .before .before .before .before .before .before .before .before .before .before .before .before .before .before .before .before .args) .s .now)) g) ((c .before .before .before .before .before .before .before .before .next-token2) .ensures)) (omega arith) (node-keeps ((c .before .before .before .before .before .before .before .before .before .before .before .before .before .before .before .before .before .before .before .args) .depth-left) ((c .before .before .before .before .before .before .before .before .before .before .before .before .before .before .before .before .before .before .before .args) .s .now)) h) (omega arith), first-below _ _ ((c .before .before .before .before .before .before .before .before .before .before .before .before .before .before .before .before .before .before .before .args) .p) _ _ _ _ (next-made ((c .before .before .before .before .before .before .before .before .before .before .before .before .before .before .before .before .before .before .before .args) .s .now) ((c .before .before .before .before .before .before .before .before .before .before .before .before .before .before .before .before .before .before .before .args) .p) ((c .before .before .before .before .before .before .before .before .before .before .before .before .before .before .before .before .next-token) .ensures)) g _ _ _ _ _ (next-made ((c .before .before .before .before .before .before .before .before .before .before .before .before .before .before .before .before .before .before .before .args) .s .now) _ ((c .before .before .before .before .before .before .before .before .next-token2) .ensures)) h, h .below)
+    (ends-free 4 (node-ends ((c .before .before .before .before .before .before .parse-node2) .kept .1 .0) 4 (ends-next (node-ends ((c .before .before .before .before .before .before .before .before .before .before .before .before .before .before .parse-node) .kept .1 .0) 5 (ends-next (ready-ends ((c .before .before .before .before .before .before .before .before .before .before .before .before .before .before .before .before .before .before .before .pre) .1 .0) ((c .before .before .before .before .before .before .before .before .before .before .before .before .before .before .before .before .before .before .before .pre) .1 .1)) ((c .before .before .before .before .before .before .before .before .before .before .before .before .before .before .before .before .next-token) .ensures)) (omega arith) (node-keeps ((c .before .before .before .before .before .before .before .before .before .before .before .before .before .before .before .before .before .before .before .args) .depth) ((c .before .before .before .before .before .before .before .before .before .before .before .before .before .before .before .before .before .before .before .args) .s .now)) g) ((c .before .before .before .before .before .before .before .before .next-token2) .ensures)) (omega arith) (node-keeps ((c .before .before .before .before .before .before .before .before .before .before .before .before .before .before .before .before .before .before .before .args) .depth) ((c .before .before .before .before .before .before .before .before .before .before .before .before .before .before .before .before .before .before .before .args) .s .now)) h) (omega arith), first-below _ _ ((c .before .before .before .before .before .before .before .before .before .before .before .before .before .before .before .before .before .before .before .args) .p) _ _ _ _ (next-made ((c .before .before .before .before .before .before .before .before .before .before .before .before .before .before .before .before .before .before .before .args) .s .now) ((c .before .before .before .before .before .before .before .before .before .before .before .before .before .before .before .before .before .before .before .args) .p) ((c .before .before .before .before .before .before .before .before .before .before .before .before .before .before .before .before .next-token) .ensures)) g _ _ _ _ _ (next-made ((c .before .before .before .before .before .before .before .before .before .before .before .before .before .before .before .before .before .before .before .args) .s .now) _ ((c .before .before .before .before .before .before .before .before .next-token2) .ensures)) h, h .below)
 
 parse-two-same-length : (t : ℕ) → parse-two-lts.Need-same-length (parse-two-calls t) (parse-two-at t) parse-two.Post
 parse-two-same-length t c = search needs
@@ -1645,7 +1645,7 @@ parse-two-same-length t c = search needs
 parse-two-returns : (t : ℕ) → parse-two-lts.Need-returns (parse-two-calls t) (parse-two-at t) parse-two.Post
 parse-two-returns t c =
     let g = rw ((c .before .r) .given .1) at ((c .before .before .before .before .before .parse-node) .ensures) in
-    two-no (λ q. parseNode ((c .before .before .before .before .before .before .before .before .before .before .args) .depth-left) ((c .before .before .before .before .before .before .before .before .before .before .args) .s .now) q) ((c .before .before .before .before .before .before .before .before .before .before .args) .s .now) ((c .before .before .before .before .before .before .before .before .before .before .args) .p) ((c .before .before .before .before .before .before .before .next-token) .ensures) ((c .before .before .before .before .before .before .before .before .before .before .args) .k) g
+    two-no (λ q. parseNode ((c .before .before .before .before .before .before .before .before .before .before .args) .depth) ((c .before .before .before .before .before .before .before .before .before .before .args) .s .now) q) ((c .before .before .before .before .before .before .before .before .before .before .args) .s .now) ((c .before .before .before .before .before .before .before .before .before .before .args) .p) ((c .before .before .before .before .before .before .before .next-token) .ensures) ((c .before .before .before .before .before .before .before .before .before .before .args) .k) g
 
 parse-two-same-length-2 : (t : ℕ) → parse-two-lts.Need-same-length-2 (parse-two-calls t) (parse-two-at t) parse-two.Post
 parse-two-same-length-2 t c = search needs
@@ -1654,7 +1654,7 @@ parse-two-returns-2 : (t : ℕ) → parse-two-lts.Need-returns-2 (parse-two-call
 parse-two-returns-2 t c =
     let g = rw ((c .before .before .before .before .before .before .before .before .before .a) .given .1) at ((c .before .before .before .before .before .before .before .before .before .before .before .before .before .parse-node) .ensures) in
     let h = rw ((c .before .r2) .given .1) at ((c .before .before .before .before .before .parse-node2) .ensures) in
-    two-no-2 (λ q. parseNode ((c .before .before .before .before .before .before .before .before .before .before .before .before .before .before .before .before .before .before .args) .depth-left) ((c .before .before .before .before .before .before .before .before .before .before .before .before .before .before .before .before .before .before .args) .s .now) q) ((c .before .before .before .before .before .before .before .before .before .before .before .before .before .before .before .before .before .before .args) .s .now) ((c .before .before .before .before .before .before .before .before .before .before .before .before .before .before .before .before .before .before .args) .p) ((c .before .before .before .before .before .before .before .before .before .before .before .before .before .before .before .next-token) .ensures) (g .is) ((c .before .before .before .before .before .before .before .next-token2) .ensures) ((c .before .before .before .before .before .before .before .before .before .before .before .before .before .before .before .before .before .before .args) .k) h
+    two-no-2 (λ q. parseNode ((c .before .before .before .before .before .before .before .before .before .before .before .before .before .before .before .before .before .before .args) .depth) ((c .before .before .before .before .before .before .before .before .before .before .before .before .before .before .before .before .before .before .args) .s .now) q) ((c .before .before .before .before .before .before .before .before .before .before .before .before .before .before .before .before .before .before .args) .s .now) ((c .before .before .before .before .before .before .before .before .before .before .before .before .before .before .before .before .before .before .args) .p) ((c .before .before .before .before .before .before .before .before .before .before .before .before .before .before .before .next-token) .ensures) (g .is) ((c .before .before .before .before .before .before .before .next-token2) .ensures) ((c .before .before .before .before .before .before .before .before .before .before .before .before .before .before .before .before .before .before .args) .k) h
 
 parse-two-same-length-3 : (t : ℕ) → parse-two-lts.Need-same-length-3 (parse-two-calls t) (parse-two-at t) parse-two.Post
 parse-two-same-length-3 t c = search needs
@@ -1663,7 +1663,7 @@ parse-two-returns-3 : (t : ℕ) → parse-two-lts.Need-returns-3 (parse-two-call
 parse-two-returns-3 t c =
     let g = rw ((c .before .before .before .before .before .before .before .before .before .before .before .before .before .a) .given .1) at ((c .before .before .before .before .before .before .before .before .before .before .before .before .before .before .before .before .before .parse-node) .ensures) in
     let h = rw ((c .before .before .before .before .before .b) .given .1) at ((c .before .before .before .before .before .before .before .before .before .parse-node2) .ensures) in
-    after-two _ _ ((c .before .before .before .before .before .before .before .before .before .before .before .before .before .before .before .before .before .before .before .before .before .before .args) .p) _ _ _ _ (next-made ((c .before .before .before .before .before .before .before .before .before .before .before .before .before .before .before .before .before .before .before .before .before .before .args) .s .now) ((c .before .before .before .before .before .before .before .before .before .before .before .before .before .before .before .before .before .before .before .before .before .before .args) .p) ((c .before .before .before .before .before .before .before .before .before .before .before .before .before .before .before .before .before .before .before .next-token) .ensures)) g _ _ _ _ _ (next-made ((c .before .before .before .before .before .before .before .before .before .before .before .before .before .before .before .before .before .before .before .before .before .before .args) .s .now) _ ((c .before .before .before .before .before .before .before .before .before .before .before .next-token2) .ensures)) h _ _ _ _ ((c .before .before .make-pair) .result) refl ((c .before .before .make-pair) .ensures) (two-is (λ q. parseNode ((c .before .before .before .before .before .before .before .before .before .before .before .before .before .before .before .before .before .before .before .before .before .before .args) .depth-left) ((c .before .before .before .before .before .before .before .before .before .before .before .before .before .before .before .before .before .before .before .before .before .before .args) .s .now) q) ((c .before .before .before .before .before .before .before .before .before .before .before .before .before .before .before .before .before .before .before .before .before .before .args) .s .now) ((c .before .before .before .before .before .before .before .before .before .before .before .before .before .before .before .before .before .before .before .before .before .before .args) .p) ((c .before .before .before .before .before .before .before .before .before .before .before .before .before .before .before .before .before .before .before .next-token) .ensures) (g .is) ((c .before .before .before .before .before .before .before .before .before .before .before .next-token2) .ensures) ((c .before .before .before .before .before .before .before .before .before .before .before .before .before .before .before .before .before .before .before .before .before .before .args) .k) (h .is))
+    after-two _ _ ((c .before .before .before .before .before .before .before .before .before .before .before .before .before .before .before .before .before .before .before .before .before .before .args) .p) _ _ _ _ (next-made ((c .before .before .before .before .before .before .before .before .before .before .before .before .before .before .before .before .before .before .before .before .before .before .args) .s .now) ((c .before .before .before .before .before .before .before .before .before .before .before .before .before .before .before .before .before .before .before .before .before .before .args) .p) ((c .before .before .before .before .before .before .before .before .before .before .before .before .before .before .before .before .before .before .before .next-token) .ensures)) g _ _ _ _ _ (next-made ((c .before .before .before .before .before .before .before .before .before .before .before .before .before .before .before .before .before .before .before .before .before .before .args) .s .now) _ ((c .before .before .before .before .before .before .before .before .before .before .before .next-token2) .ensures)) h _ _ _ _ ((c .before .before .make-pair) .result) refl ((c .before .before .make-pair) .ensures) (two-is (λ q. parseNode ((c .before .before .before .before .before .before .before .before .before .before .before .before .before .before .before .before .before .before .before .before .before .before .args) .depth) ((c .before .before .before .before .before .before .before .before .before .before .before .before .before .before .before .before .before .before .before .before .before .before .args) .s .now) q) ((c .before .before .before .before .before .before .before .before .before .before .before .before .before .before .before .before .before .before .before .before .before .before .args) .s .now) ((c .before .before .before .before .before .before .before .before .before .before .before .before .before .before .before .before .before .before .before .before .before .before .args) .p) ((c .before .before .before .before .before .before .before .before .before .before .before .before .before .before .before .before .before .before .before .next-token) .ensures) (g .is) ((c .before .before .before .before .before .before .before .before .before .before .before .next-token2) .ensures) ((c .before .before .before .before .before .before .before .before .before .before .before .before .before .before .before .before .before .before .before .before .before .before .args) .k) (h .is))
 
 pub +parse-bare+parse-begin+parse-brace+parse-group+parse-left+parse-lim+parse-limits+parse-middle+parse-node+parse-one+parse-single-node+parse-slashed+parse-sqrt+parse-style+parse-two-spec :
     {M : Type 1} → statement M

@@ -1,0 +1,16 @@
+-- The place of the next mark of a text.
+-- Assumes nothing.
+use mathlib.Core.Bool.{Bool, true, false}
+use mathlib.Core.List.{List, [], _∷_}
+use Prim.Native.Nat.{ℕ, suc}
+use Rattle.latex2mathml.specs.Replace.{dollar, twoDollars}
+
+-- a mark is two dollars in pass one, one in pass two
+abbrev pub mark : Bool → List ℕ → Bool
+mark true = twoDollars
+mark false = dollar
+
+-- the first place of a text, which begins at `at`, where what stands from there on passes the test, or the place behind its end
+unfoldable pub nextPlace : (List ℕ → Bool) → ℕ → List ℕ → ℕ
+nextPlace test at [] = at
+nextPlace test at (b ∷ l) = elim (test (b ∷ l)) [ true ↦ at | false ↦ nextPlace test (suc at) l ]

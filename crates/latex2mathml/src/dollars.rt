@@ -1,0 +1,84 @@
+// The dollars of a document.
+ghost use mathlib.Core.Path.{_≡_};
+ghost use Prim.Native.Nat.{_≤_};
+ghost use lib.Dec.{ltb};
+ghost use lib.ListN.{length, drop};
+ghost use Rattle.latex2mathml.specs.Replace.{dollar, twoDollars, threeDollars, places, odd};
+ghost use Rattle.latex2mathml.specs.Dollars.{mark, nextPlace};
+
+// The place of the first dollar from a place on, or the length.
+pub fn next_dollar(s: &[u8], from: usize) -> usize
+    requires { ⌜ from ≤ length (now s) ⌝ }
+    ensures { λ r. ⌜ (r ≡ nextPlace dollar from (drop from (now (s .entry)))) × (from ≤ r) × (r ≤ length (now (s .entry))) ⌝ }
+{
+    let mut i = from;
+    while i < s.len() {
+        if s[i] == b'$' {
+            return i;
+        }
+        i += 1;
+    }
+    i
+}
+
+// The place of the first two dollars side by side from a place on, or the length.
+pub fn next_window(s: &[u8], from: usize) -> usize
+    requires { ⌜ from ≤ length (now s) ⌝ }
+    ensures { λ r. ⌜ (r ≡ nextPlace twoDollars from (drop from (now (s .entry)))) × (from ≤ r) × (r ≤ length (now (s .entry))) ⌝ }
+{
+    let mut i = from;
+    loop {
+        i = next_dollar(s, i);
+        if s.len() - i < 2 {
+            return s.len();
+        }
+        if s[i + 1] == b'$' {
+            return i;
+        }
+        i += 1;
+    }
+}
+
+// The place of the next mark, which is one dollar or two.
+pub fn next_mark(s: &[u8], from: usize, double: bool) -> usize
+    requires { ⌜ from ≤ length (now s) ⌝ }
+    ensures { λ r. ⌜ (r ≡ nextPlace (mark double) from (drop from (now (s .entry)))) × (from ≤ r) × (r ≤ length (now (s .entry))) ⌝ }
+{
+    if double {
+        return next_window(s, from);
+    }
+    next_dollar(s, from)
+}
+
+// Whether the number of marks is odd; windows of two dollars may overlap.
+pub fn odd_marks(s: &[u8], double: bool) -> bool
+    ensures { λ r. ⌜ r ≡ odd (places (mark double) 0 (now (s .entry))) ⌝ }
+{
+    let mut is_odd = false;
+    let mut i = 0;
+    loop {
+        i = next_mark(s, i, double);
+        if i == s.len() {
+            return is_odd;
+        }
+        is_odd = !is_odd;
+        i += 1;
+    }
+}
+
+// Whether three dollars stand in a row.
+pub fn three_dollars(s: &[u8]) -> bool
+    ensures { λ r. ⌜ r ≡ ltb 0 (length (places threeDollars 0 (now (s .entry)))) ⌝ }
+{
+    let mut i = 0;
+    loop {
+        i = next_window(s, i);
+        if s.len() - i < 3 {
+            return false;
+        }
+        if s[i + 2] == b'$' {
+            return true;
+        }
+        i += 1;
+    }
+}
