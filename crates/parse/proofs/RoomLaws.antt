@@ -3,7 +3,6 @@
 use mathlib.Core.Path.{_≡_, refl, sym, _∙_, ap}
 use mathlib.Core.Bool.{true, false}
 use mathlib.Core.List.{List}
-use mathlib.Core.Option.{Option, none, some}
 use Prim.Native.Nat.{ℕ, zero, suc, _+_, _*_, _^_, _≤_, _<_}
 use native.Mathlib.Omega.{arith}
 use lib.Dec.{lit≤}
@@ -18,7 +17,7 @@ use Rattle.parser.specs.State.{next, peekIs, pastLetters, parseText}
 use Rattle.parser.specs.Parse.{Reads, made, parseGroup, parseBare, parseNode, parseSingleNode}
 use Rattle.parser.specs.Sound.{least, Sound, idle, Keeps}
 use Rattle.parser.specs.Built.{Built, Free, Ready, Primed}
-use Rattle.parser.proofs.MoveLaws.{mark-byte, next-sound, text-sound, idle-le, idle-none}
+use Rattle.parser.proofs.MoveLaws.{by-letter, mark-byte, next-sound, text-sound, idle-le, idle-none}
 use Rattle.parser.proofs.KeepLaws.{group-kept}
 use Rattle.parser.proofs.ArmLaws.{bare-kept}
 use Rattle.parser.proofs.BodyLaws.{node-keeps, single-keeps}
@@ -186,10 +185,6 @@ wide-3 s p t h e le =
 pub next-made : (s : List ℕ) (p : Parser) {q : Parser} → q ≡ next s p → q .made ≡ p .made
 unfolding next
 next-made s p e = ap (λ x. x .made) e
-
-by-letter : {P : Type 0} (o : Option ℕ) → (o ≡ none → P) → ((c : ℕ) → o ≡ some c → P) → P
-by-letter none f g = f refl
-by-letter (some c) f g = g c refl
 
 past-made : (k : ℕ) (s : List ℕ) (p : Parser) → pastLetters k s p .made ≡ p .made
 unfolding pastLetters next

@@ -121,6 +121,7 @@ fn parse_big(s: &[u8], store: &mut [u8], p: Parser, size: u32) -> ParsedNode
     make_big(store, after, size)
 }
 
+// A function by the name in its text.
 fn parse_operator_name(s: &[u8], store: &mut [u8], p: Parser) -> ParsedNode
     requires { ⌜ Ready (now s) (now store) p × (p .cur .start + 3 ≤ p .cur .end) ⌝ }
     ensures { λ r. ⌜ Builds (now (store .entry)) (now (store .exit)) (p .made) p (parseTextLeaf (now (s .entry)) FunctionName p) r ⌝ }
@@ -130,6 +131,7 @@ fn parse_operator_name(s: &[u8], store: &mut [u8], p: Parser) -> ParsedNode
     make_leaf(store, t.after, Leaf::FunctionName(t.a, t.e))
 }
 
+// A text as it is read.
 fn parse_text(s: &[u8], store: &mut [u8], p: Parser) -> ParsedNode
     requires { ⌜ Ready (now s) (now store) p × (p .cur .start + 3 ≤ p .cur .end) ⌝ }
     ensures { λ r. ⌜ Builds (now (store .entry)) (now (store .exit)) (p .made) p (parseTextLeaf (now (s .entry)) Text p) r ⌝ }

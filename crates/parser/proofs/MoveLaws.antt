@@ -114,7 +114,7 @@ new-made s = refl
 
 -- ---- the letters that are passed
 
-by-letter : {P : Type 0} (o : Option ℕ) → (o ≡ none → P) → ((c : ℕ) → o ≡ some c → P) → P
+pub by-letter : {P : Type 0} (o : Option ℕ) → (o ≡ none → P) → ((c : ℕ) → o ≡ some c → P) → P
 by-letter none f g = f refl
 by-letter (some c) f g = g c refl
 
