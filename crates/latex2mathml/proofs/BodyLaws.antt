@@ -17,10 +17,13 @@ use Rattle.parse.specs.Body.{parseBody, StoresBody}
 use Rattle.parse.proofs.LoopLaws.{count-few}
 use Rattle.print.specs.Shown.{NodesAt, Printable, Prints}
 use Rattle.latex2mathml.specs.declared.Answer.{Answer}
+use Rattle.latex2mathml.specs.Outcome.{accepted}
 use Rattle.latex2mathml.specs.Translate.{inMath, translate}
 use Rattle.latex2mathml.specs.Replace.{translateBody}
-use Rattle.latex2mathml.specs.PutBody.{RoomFor, PutThere}
-use Rattle.latex2mathml.proofs.TranslateLaws.{Gives, body-translated, body-too-large, body-fits, gives-nothing, gives-markup, math-small}
+use Rattle.latex2mathml.specs.Written.{Gives}
+use Rattle.latex2mathml.specs.Laid.{RoomFor, LaidThere}
+use Rattle.latex2mathml.proofs.TranslateLaws.{body-translated, body-too-large, body-fits, gives-nothing, gives-markup, math-short}
+use Rattle.latex2mathml.proofs.LayLaws.{laid-puts, laid-beyond, room-sure, room-count}
 
 module _ {s st : List ℕ} {first n hi : ℕ} (store : ℕ) (b : StoresBody s st (parseBody 256 s store) first n hi) where
   there : NodesAt s st hi first n (b .nodes)
@@ -51,7 +54,8 @@ module _ {s st : List ℕ} {first n hi : ℕ} (store : ℕ) (b : StoresBody s st
     small =
         let f = b .few in
         let z = b .size in
-        math-small s display (b .nodes) h (omega arith)
+        let m = math-short s display (b .nodes) h (omega arith) in
+        omega arith
 
     -- there is room to count it, and to write it where the output is long enough
     room : (write : Bool) (o : List ℕ) → (write ≡ true → length markup ≤ length o) → Room write o 0 (length markup)
@@ -96,15 +100,57 @@ module _ {s st : List ℕ} {first n hi : ℕ} (store : ℕ) (b : StoresBody s st
           let q : Puts true o o₂ 0 markup r₂ = rw same at (p .all (b .nodes) there (room true o₁ (λ t. omega arith))) in
           gives-markup (body-fits s display store (length o) h e (b .is) (omega arith)) l q
 
-  -- ---- put at a place, as a body of a document
-  pub able-there : (display : DisplayStyle) (write : Bool) (o : List ℕ) (at : ℕ) → RoomFor (translateBody store display s) write o at
-      → Printable (NodesAt s st hi first n) (λ ns. inMath display (printAll s ns)) write o at
-  able-there display write o at fits =
-      record { what = b .nodes; there = there; room = fits (inMath display (printAll s (b .nodes))) (body-translated s display store (b .is)) }
+  -- ---- laid at a place, as a body of a document
+  module _ (display : DisplayStyle) (sure : Bool) (o : List ℕ) (at : ℕ) (room-for : RoomFor (translateBody store display s) sure o at) where
+    abbrev text : List ℕ
+    text = inMath display (printAll s (b .nodes))
 
-  pub put-there : (display : DisplayStyle) {write : Bool} {o o′ : List ℕ} {at r : ℕ} → RoomFor (translateBody store display s) write o at
-      → Prints (NodesAt s st hi first n) (λ ns. inMath display (printAll s ns)) write o o′ at r → PutThere (translateBody store display s) write o o′ at r
-  put-there display fits p =
-      let m = inMath display (printAll s (b .nodes)) in
-      let is = body-translated s display store (b .is) in
-      record { markup = m; is = is; puts = p .all (b .nodes) there (fits m is) }
+    is : translateBody store display s ≡ accepted text
+    is = body-translated s display store (b .is)
+
+    shows : (write : Bool) → Room write o at (length text) → Printable (NodesAt s st hi first n) (λ ns. inMath display (printAll s ns)) write o at
+    shows write h = record { what = b .nodes; there = there; room = h }
+
+    pub show-sure : (write : Bool) → sure ≡ true → Printable (NodesAt s st hi first n) (λ ns. inMath display (printAll s ns)) write o at
+    show-sure write e = shows write (room-sure write (room-for text is) e)
+
+    pub show-count : Printable (NodesAt s st hi first n) (λ ns. inMath display (printAll s ns)) false o at
+    show-count = shows false (room-count (room-for text is))
+
+    pub lay-sure : {write : Bool} {o′ : List ℕ} {r : ℕ} → sure ≡ true
+        → Prints (NodesAt s st hi first n) (λ ns. inMath display (printAll s ns)) write o o′ at r → LaidThere (translateBody store display s) write o o′ at r
+    lay-sure {write} e p =
+        let q = p .all (b .nodes) there (room-sure write (room-for text is) e) in
+        record { text = text; is = is; place = q .place; laid = laid-puts write q }
+
+    module _ {o₁ : List ℕ} {r : ℕ} (counted : Prints (NodesAt s st hi first n) (λ ns. inMath display (printAll s ns)) false o o₁ at r) where
+      count : Puts false o o₁ at text r
+      count = counted .all (b .nodes) there (room-count (room-for text is))
+
+      unchanged : o₁ ≡ o
+      unfolding put
+      unchanged = count .output
+
+      pub lay-beyond : (write : Bool) → length o₁ < r → LaidThere (translateBody store display s) write o o₁ at r
+      lay-beyond write h =
+          let e = count .place in
+          let z = ap length unchanged in
+          record { text = text; is = is; place = e; laid = rw unchanged (laid-beyond write o text at (omega arith)) }
+
+      pub lay-count : LaidThere (translateBody store display s) false o o₁ at r
+      lay-count = record { text = text; is = is; place = count .place; laid = unchanged }
+
+      fitting : r ≤ length o₁ → Room true o at (length text)
+      fitting h =
+          let e = count .place in
+          let z = ap length unchanged in
+          record { small = room-for text is .small; inside = λ t. omega arith }
+
+      pub show-fitting : r ≤ length o₁ → Printable (NodesAt s st hi first n) (λ ns. inMath display (printAll s ns)) true o₁ at
+      show-fitting h = rw unchanged (shows true (fitting h))
+
+      pub lay-fitting : {o₂ : List ℕ} {r₂ : ℕ} → r ≤ length o₁
+          → Prints (NodesAt s st hi first n) (λ ns. inMath display (printAll s ns)) true o₁ o₂ at r₂ → LaidThere (translateBody store display s) true o o₂ at r
+      lay-fitting h p =
+          let q = (rw unchanged at p) .all (b .nodes) there (fitting h) in
+          record { text = text; is = is; place = count .place; laid = laid-puts true q }

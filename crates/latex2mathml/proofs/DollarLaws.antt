@@ -1,17 +1,18 @@
 -- Dollars side by side, and whether marks are odd in number.
 -- Assumes nothing.
-use mathlib.Core.Path.{_≡_, refl, sym, _∙_}
-use mathlib.Core.Bool.{Bool, true, false, not, xor, _&&_, and-false}
+use mathlib.Core.Path.{_≡_, refl, sym, _∙_, ap}
+use mathlib.Core.Bool.{Bool, true, false, not, xor, _&&_, and-false, false≢true}
 use mathlib.Core.List.{List, [], _∷_}
 use Prim.Native.Nat.{ℕ, zero, suc, _+_, _-_, _≤_, _<_, _%_}
 use native.Mathlib.Omega.{arith}
+use native.Mathlib.Numerals.{add-one}
 use lib.Dec.{eqb, ltb}
 use lib.ListN.{length, drop, getD, drop-of-length-le}
 use lib.Seq.{drop-drop}
-use borrow.Author.Tests.{eqb-true, eqb-false, eq-eqb, ne-eqb, lt-ltb}
-use Rattle.text.proofs.Cases.{by-test}
+use borrow.Author.Tests.{eqb-true, eqb-false, eq-eqb, ne-eqb, lt-ltb, ltb-false}
+use Rattle.text.proofs.Cases.{never, by-test, by-order, both}
 use Rattle.latex2mathml.specs.Replace.{dollar, twoDollars, threeDollars, places, odd}
-use Rattle.latex2mathml.specs.Dollars.{nextPlace}
+use Rattle.latex2mathml.specs.Dollars.{mark, width, nextPlace}
 use Rattle.latex2mathml.proofs.PlaceLaws.{next-here, next-more, next-is, next-none, places-here, places-more, places-none, places-first, skipped}
 
 -- a byte is a dollar where it stands
@@ -123,3 +124,102 @@ module _ (test : List ℕ → Bool) (s : List ℕ) (i r : ℕ) (o : Bool) (h : i
 
   pub odd-next : r < length s → xor o (odd (places test i (drop i s))) ≡ xor (not o) (odd (places test (r + 1) (drop (r + 1) s)))
   odd-next l = rw (places-first test s i r h e l, odd-more) (flipped o _)
+
+-- Marks that do not overlap.
+module _ (test : List ℕ → Bool) (s : List ℕ) (none : places test 0 s ≡ []) where
+  none-from : (k : ℕ) → k ≤ length s → places test k (drop k s) ≡ []
+  none-from zero h = none
+  none-from (suc k) h =
+      let before = none-from k (omega arith) in
+      by-test (test (drop k s))
+      (λ passed. let z = places-here test s k (omega arith) passed in never cc)
+      (λ failed. rw (← add-one k) (sym (places-more test s k (omega arith) failed) ∙ before))
+
+  -- no place passes where none is listed
+  none-passes : (k : ℕ) → k < length s → test (drop k s) ≡ false
+  none-passes k h =
+      by-test (test (drop k s))
+      (λ passed.
+      let z = places-here test s k h passed in
+      let y = none-from k (omega arith) in
+      never cc)
+      (λ failed. failed)
+
+none-listed : (l : List ℕ) → ltb 0 (length l) ≡ false → l ≡ []
+none-listed [] e = refl
+none-listed (b ∷ l) e = let z = ltb-false 0 (suc (length l)) e in absurd (omega arith)
+
+-- where no three dollars stand in a row, the marks behind a mark are those behind its last dollar
+pub record Behind (double : Bool) (s : List ℕ) (a : ℕ) : Type 0 where
+  pub inside : a + width double ≤ length s
+  pub marks : places (mark double) (a + 1) (drop (a + 1) s) ≡ places (mark double) (a + width double) (drop (a + width double) s)
+
+pub behind : (double : Bool) (s : List ℕ) (a : ℕ) → (double ≡ true → ltb 0 (length (places threeDollars 0 s)) ≡ false)
+    → a < length s → mark double (drop a s) ≡ true → Behind double s a
+behind true s a apart l passed =
+    let next : dollar (drop (a + 1) s) ≡ true =
+    by-test (dollar (drop (a + 1) s))
+    (λ t. t)
+    (λ t. let z : twoDollars (drop a s) ≡ false = two-at s a _ false refl t ∙ and-false (dollar (drop a s)) in never cc) in
+    let inner : a + 1 < length s = by-order (a + 1) (length s) (λ h. h) (λ h. let z = dollar-end s (a + 1) h in never cc) in
+    let three = none-passes threeDollars s (none-listed (places threeDollars 0 s) (apart refl)) a l in
+    let two : a + 1 + 1 ≡ a + 2 = omega arith in
+    let third : dollar (drop (a + 1 + 1) s) ≡ false = rw two (sym (three-at s a true _ passed refl) ∙ three) in
+    record { inside = omega arith; marks = rw (← two) (places-more twoDollars s (a + 1) inner (two-at s (a + 1) true false next third)) }
+behind false s a apart l passed = record { inside = omega arith; marks = refl }
+
+-- two marks more leave the marks odd or even
+even-rest : (a b : ℕ) (l : List ℕ) → odd (a ∷ b ∷ l) ≡ false → odd l ≡ false
+even-rest a b l e =
+    let z = odd-more a (b ∷ l) in
+    let y = odd-more b l in
+    by-test (odd l) (λ t. let x = rw t at y in let w = rw x at z in never cc) (λ t. t)
+
+some-wide : (double : Bool) → 1 ≤ width double
+some-wide true = omega arith
+some-wide false = omega arith
+
+-- the marks from a place on are a first and a second one, and those behind it
+pub record Pair (double : Bool) (s : List ℕ) (w from a b : ℕ) : Type 0 where
+  pub marks : places (mark double) from (drop from s) ≡ a ∷ b ∷ places (mark double) (b + w) (drop (b + w) s)
+  pub some : 1 ≤ w
+  pub first : from ≤ a
+  pub gap : a + w ≤ b
+  pub last : b + w ≤ length s
+  pub even : odd (places (mark double) (b + w) (drop (b + w) s)) ≡ false
+
+module _ (double : Bool) (s : List ℕ) (apart : double ≡ true → ltb 0 (length (places threeDollars 0 s)) ≡ false) (w : ℕ) (wide : w ≡ width double) where
+  -- a mark that is next has its dollars in the text
+  pub mark-next : (from a : ℕ) → from ≤ length s → a ≡ nextPlace (mark double) from (drop from s) → a < length s → Behind double s a
+  mark-next from a h e l = behind double s a apart l (rw (← e) at (next-is (mark double) s from h) .passes l)
+
+  pub mark-inside : (from a : ℕ) → from ≤ length s → a ≡ nextPlace (mark double) from (drop from s) → a < length s → a + w ≤ length s
+  mark-inside from a h e l = rw wide (mark-next from a h e l .inside)
+
+  marks-next : (from a : ℕ) → from ≤ length s → a ≡ nextPlace (mark double) from (drop from s) → a < length s
+      → places (mark double) from (drop from s) ≡ a ∷ places (mark double) (a + w) (drop (a + w) s)
+  marks-next from a h e l = places-first (mark double) s from a h e l ∙ rw wide (ap (λ z. a ∷ z) (mark-next from a h e l .marks))
+
+  pub pair-next : (from a b : ℕ) → from ≤ length s → odd (places (mark double) from (drop from s)) ≡ false
+      → a ≡ nextPlace (mark double) from (drop from s) → a < length s → b ≡ nextPlace (mark double) (a + w) (drop (a + w) s) → Pair double s w from a b
+  unfolding odd
+  pair-next from a b h even e l f =
+      let test = mark double in
+      let x = next-is test s from h in
+      let inner = mark-inside from a h e l in
+      let y = next-is test s (a + w) inner in
+      let one = marks-next from a h e l in
+      let more : b < length s =
+      by-order b (length s)
+      (λ k. k)
+      (λ k. let z = one ∙ ap (λ z. a ∷ z) (places-none test s (a + w) b inner f (omega (arith, y .inside))) in absurd (false≢true (sym (rw z at even)))) in
+      let both-marks : places test from (drop from s) ≡ a ∷ b ∷ places test (b + w) (drop (b + w) s) =
+      one ∙ ap (λ z. a ∷ z) (marks-next (a + w) b inner f more) in
+      record {
+        marks = both-marks;
+        some = rw wide (some-wide double);
+        first = omega (arith, x .from);
+        gap = omega (arith, y .from);
+        last = mark-inside (a + w) b inner f more;
+        even = even-rest a b (places test (b + w) (drop (b + w) s)) (rw both-marks at even);
+      }

@@ -24,18 +24,15 @@ use Rattle.markup.specs.Print.{printAll}
 use Rattle.markup.proofs.ShortLaws.{most, short-all}
 use Rattle.parser.specs.declared.Parser.{Parser}
 use Rattle.parser.specs.Parse.{Parsed, parse}
+use Rattle.parser.proofs.BodyLaws.{parse-kept}
 use Rattle.parse.specs.Body.{parseBody, StoresBody}
 use Rattle.print.specs.Shown.{NodesAt, Printable, Prints}
 use Rattle.latex2mathml.specs.declared.Answer.{Answer}
 use Rattle.latex2mathml.specs.Outcome.{Outcome, accepted, refused, _>>=_, refuse, bodyLimit, depthLimit, recordSize, bytesOf}
 use Rattle.latex2mathml.specs.Translate.{convertContent, inMath, latexToMathml, storeTooSmall, translate}
 use Rattle.latex2mathml.specs.Replace.{translateBody}
-use Rattle.latex2mathml.specs.Written.{answerOf, over}
-
--- what the operation answers and writes where the translation gives o
-pub record Gives (want : Outcome (List ℕ)) (r : Answer) (o o′ : List ℕ) : Type 0 where
-  pub answer : r ≡ answerOf want
-  pub output : o′ ≡ over (bytesOf want) o
+use Rattle.latex2mathml.specs.Written.{answerOf, over, Gives}
+use Rattle.latex2mathml.specs.Laid.{growth}
 
 module _ (s : List ℕ) (display : DisplayStyle) (store room : ℕ) where
   pub too-long : 4096 < length s → translate s display store room ≡ refused Refusal.TooLong
@@ -136,13 +133,38 @@ unfolding text-opens displayStyle
 style-short DisplayStyle.Block = omega arith
 style-short DisplayStyle.Inline = omega arith
 
--- the markup of a body is a number of the machine long
-pub math-small : (s : List ℕ) (display : DisplayStyle) (ns : Nodes) → length s ≤ 4096 → sizes ns ≤ 2 * length s → length (inMath display (printAll s ns)) < 2 ^ 64
+-- the markup of a body is not much longer than the body
+pub math-short : (s : List ℕ) (display : DisplayStyle) (ns : Nodes) → length s ≤ 4096 → sizes ns ≤ 2 * length s
+    → length (inMath display (printAll s ns)) ≤ (length s + 1) * growth
 unfolding inMath text-opens
-math-small s display ns h few =
+math-short s display ns h few =
     let a = short-all s ns in
-    let x : sizes ns ≤ 8192 = omega arith in
-    let y : most (length s) ≤ most 4096 = omega arith in
-    let b : sizes ns * most (length s) ≤ 8192 * most 4096 = mul-le-mul x y in
+    let y : most (length s) ≤ 147856 = omega arith in
+    let b : sizes ns * most (length s) ≤ (2 * length s) * 147856 = mul-le-mul few y in
     let c = style-short display in
     simp length-append (omega arith)
+
+module _ (s : List ℕ) (display : DisplayStyle) (store : ℕ) (m : List ℕ) (is : translateBody store display s ≡ accepted m) where
+  short-made : (ns : Nodes) (q : Parser) → parseBody 256 s store ≡ Parsed.made ns q → length m ≤ (length s + 1) * growth
+  unfolding parseBody
+  short-made ns q e =
+      let g = body-translated s display store e in
+      let n : inMath display (printAll s ns) ≡ m = cc in
+      by-test (ltb 4096 (length s))
+      (λ t. let f = rw (parseBody, t) at e in never cc)
+      (λ t.
+      by-test (ltb (store / 24) (2 * length s))
+      (λ u. let f = rw (parseBody, t, u) at e in never cc)
+      (λ u.
+      let f = rw (parseBody, t, u) at e in
+      let k = parse-kept 256 s ns q f in
+      let z = k .size in
+      let y = k .few in
+      rw (← n) (math-short s display ns (ltb-false 4096 (length s) t) (omega arith))))
+
+  short-parsed : (x : Parsed Nodes) → parseBody 256 s store ≡ x → length m ≤ (length s + 1) * growth
+  short-parsed (Parsed.made ns q) e = short-made ns q e
+  short-parsed (Parsed.refused r) e = let g = body-refused s display store e in never cc
+
+  pub translated-short : length m ≤ (length s + 1) * growth
+  translated-short = short-parsed (parseBody 256 s store) refl

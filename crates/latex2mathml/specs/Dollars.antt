@@ -10,6 +10,10 @@ abbrev pub mark : Bool → List ℕ → Bool
 mark true = twoDollars
 mark false = dollar
 
+abbrev pub width : Bool → ℕ
+width true = 2
+width false = 1
+
 -- the first place of a text, which begins at `at`, where what stands from there on passes the test, or the place behind its end
 unfoldable pub nextPlace : (List ℕ → Bool) → ℕ → List ℕ → ℕ
 nextPlace test at [] = at

@@ -1,7 +1,7 @@
 pub mod Outcome
 pub mod Translate
-pub mod Written
 pub mod Replace
-pub mod PutBody
+pub mod Written
 pub mod Dollars
+pub mod Laid
 pub mod Marked

@@ -1,5 +1,6 @@
--- What an operation writes.
+-- What the operations promise: their answers, and what each buffer holds afterwards. Free is what the lent store holds.
 -- Assumes nothing.
+use mathlib.Core.Path.{_≡_}
 use mathlib.Core.List.{List, _++_}
 use Prim.Native.Nat.{ℕ}
 use lib.ListN.{length, drop}
@@ -7,7 +8,9 @@ use Rattle.text.specs.Text.{bytes}
 use Rattle.attribute.specs.declared.DisplayStyle.{DisplayStyle}
 use Rattle.attribute.specs.Names.{displayStyle}
 use Rattle.latex2mathml.specs.declared.Answer.{Answer}
-use Rattle.latex2mathml.specs.Outcome.{Outcome, accepted, refused}
+use Rattle.latex2mathml.specs.Outcome.{Outcome, accepted, refused, bytesOf}
+use Rattle.latex2mathml.specs.Translate.{translate}
+use Rattle.latex2mathml.specs.Replace.{replace}
 
 -- the opening tag of the wrapper
 unfoldable pub opening : DisplayStyle → List ℕ
@@ -18,6 +21,20 @@ unfoldable pub answerOf : Outcome (List ℕ) → Answer
 answerOf (accepted l) = Answer.Accepted (length l)
 answerOf (refused r) = Answer.Refused r
 
--- the output o with the bytes l at its front
+-- the buffer o with the bytes l at its front
 unfoldable pub over : List ℕ → List ℕ → List ℕ
 over l o = l ++ drop (length l) o
+
+-- an operation that gives `want` answers r, and the output that was o is o′
+pub record Gives (want : Outcome (List ℕ)) (r : Answer) (o o′ : List ℕ) : Type 0 where
+  pub answer : r ≡ answerOf want
+  pub output : o′ ≡ over (bytesOf want) o
+
+-- the body translation, with a store of `store` bytes
+abbrev pub Translates : List ℕ → DisplayStyle → ℕ → Answer → List ℕ → List ℕ → Type 0
+Translates s display store r o o′ = Gives (translate s display store (length o)) r o o′
+
+-- the replacement: besides, the work buffer that was w is w′
+pub record Replaces (document : List ℕ) (store : ℕ) (r : Answer) (w w′ o o′ : List ℕ) : Type 0 where
+  pub gives : Gives (replace document store (length w) (length o) .outcome) r o o′
+  pub work : w′ ≡ over (replace document store (length w) (length o) .work) w

@@ -1,31 +1,242 @@
 // Replacement: the Rust's `replace`, in two passes over a document.
 use crate::Answer;
+use crate::dollars::next_mark;
+use crate::dollars::odd_marks;
+use crate::dollars::three_dollars;
 use crate::translate::put_math;
 use attribute::DisplayStyle;
+use error::Refusal;
 use parse::ParsedNodes;
 use parse::body::parse;
+use text::put::put;
+use text::well_formed;
+ghost use mathlib.Core.Path.{_≡_};
+ghost use mathlib.Core.Bool.{true};
+ghost use Prim.Native.Nat.{_+_, _*_, _^_, _≤_, _<_};
 ghost use lib.ListN.{length};
-ghost use Rattle.latex2mathml.specs.Replace.{translateBody};
-ghost use Rattle.latex2mathml.specs.PutBody.{RoomFor, PutsBody};
+ghost use Rattle.latex2mathml.specs.Replace.{translateBody, firstPass, secondPass, replacement};
+ghost use Rattle.latex2mathml.specs.Dollars.{width};
+ghost use Rattle.latex2mathml.specs.Written.{answerOf, Gives, Replaces};
+ghost use Rattle.latex2mathml.specs.Laid.{Laid, Lays, RoomFor, Fits, WrittenThere, inRoom, passed, growth, Passable, AtMost, Measures};
 
-// Puts the markup of a body at a place, or counts it; the answer is the place behind it.
-fn put_body(
+// Lays a piece at a place, or counts it; the answer is the place behind it.
+fn lay(piece: &[u8], out: &mut [u8], at: usize, write: bool) -> usize
+    requires { ⌜ at + length (now piece) < 2 ^ 64 ⌝ }
+    ensures { λ r. ⌜ (r ≡ at + length (now (piece .entry))) × Laid write (now (out .entry)) (now (out .exit)) at (now (piece .entry)) ⌝ }
+{
+    let end = at + piece.len();
+    if out.len() < end {
+        return end;
+    }
+    put(piece, out, at, write)
+}
+
+// Lays the markup of a body at a place, or counts it; what is sure to fit is not measured first.
+fn lay_body(
     s: &[u8],
     display: DisplayStyle,
     store: &mut [u8],
     out: &mut [u8],
     at: usize,
     write: bool,
+    sure: bool,
 ) -> Answer
-    requires { ⌜ RoomFor (translateBody (length (now store)) display (now s)) write (now out) at ⌝ }
-    ensures { λ r. ⌜ PutsBody (translateBody (length (now (store .entry))) display (now (s .entry))) write (now (out .entry)) (now (out .exit)) at r ⌝ }
+    requires { ⌜ RoomFor (translateBody (length (now store)) display (now s)) sure (now out) at ⌝ }
+    ensures { λ r. ⌜ Lays (translateBody (length (now (store .entry))) display (now (s .entry))) write (now (out .entry)) (now (out .exit)) at r ⌝ }
 {
     match parse(s, store, 256) {
         ParsedNodes::Refused(r) => Answer::Refused(r),
         ParsedNodes::Nodes(first, count, made) => {
             let n = count as u32;
-            let end = put_math(s, display, store, first, n, made, out, at, write);
+            if sure {
+                let end = put_math(s, display, store, first, n, made, out, at, write);
+                return Answer::Accepted(end);
+            }
+            let end = put_math(s, display, store, first, n, made, out, at, false);
+            if out.len() < end {
+                return Answer::Accepted(end);
+            }
+            if write {
+                put_math(s, display, store, first, n, made, out, at, true);
+                return Answer::Accepted(end);
+            }
             Answer::Accepted(end)
         }
     }
+}
+
+// The number of dollars of a mark.
+fn width(double: bool) -> usize
+    ensures { λ r. ⌜ r ≡ width double ⌝ }
+{
+    if double {
+        return 2;
+    }
+    1
+}
+
+// Lays a text with the bodies between its marks translated; the marks are taken first with second, third with fourth.
+fn substitute(
+    s: &[u8],
+    double: bool,
+    display: DisplayStyle,
+    store: &mut [u8],
+    out: &mut [u8],
+    start: usize,
+    write: bool,
+    sure: bool,
+) -> Answer
+    requires { ⌜ Passable (length (now store)) display double (now s) sure (now out) start ⌝ }
+    ensures { λ r. ⌜ Lays (passed (length (now (store .entry))) display double (now (s .entry))) write (now (out .entry)) (now (out .exit)) start r × AtMost (start + length (now (s .entry)) * growth) r ⌝ }
+{
+    let width = width(double);
+    let mut from: usize = 0;
+    let mut at = start;
+    loop {
+        let a = next_mark(s, from, double);
+        if a == s.len() {
+            return Answer::Accepted(lay(&s[from..], out, at, write));
+        }
+        let b = next_mark(s, a + width, double);
+        at = lay(&s[from..a], out, at, write);
+        match lay_body(&s[a + width..b], display, store, out, at, write, sure) {
+            Answer::Refused(r) => {
+                return Answer::Refused(r);
+            }
+            Answer::Accepted(end) => {
+                at = end;
+                from = b + width;
+            }
+        }
+    }
+}
+
+// Writes the text of a pass that was measured, and so is not refused; the answer is the place behind it.
+fn write_pass(
+    s: &[u8],
+    double: bool,
+    display: DisplayStyle,
+    store: &mut [u8],
+    out: &mut [u8],
+    at: usize,
+) -> usize
+    requires { ⌜ Passable (length (now store)) display double (now s) true (now out) at ⌝ }
+    ensures { λ r. ⌜ WrittenThere (passed (length (now (store .entry))) display double (now (s .entry))) (now (out .entry)) (now (out .exit)) at r × (r ≤ at + length (now (s .entry)) * growth) ⌝ }
+{
+    match substitute(s, double, display, store, out, at, true, true) {
+        Answer::Accepted(end) => end,
+        Answer::Refused(r) => at,
+    }
+}
+
+// Pass one: its text goes to the work buffer if it is to be written and fits.
+fn first_pass(document: &[u8], store: &mut [u8], work: &mut [u8], write: bool) -> Answer
+    ensures { λ r. ⌜ Lays (firstPass (now (document .entry)) (length (now (store .entry))) (length (now (work .entry)))) write (now (work .entry)) (now (work .exit)) 0 r × AtMost (length (now (document .entry)) * growth) r ⌝ }
+{
+    if 32768 < document.len() {
+        return Answer::Refused(Refusal::TooLong);
+    }
+    if !well_formed(document) {
+        return Answer::Refused(Refusal::IllFormed);
+    }
+    if odd_marks(document, true) {
+        return Answer::Refused(Refusal::InvalidNumberOfDollarSigns);
+    }
+    if three_dollars(document) {
+        return Answer::Refused(Refusal::ThreeDollarSigns);
+    }
+    match substitute(
+        document,
+        true,
+        DisplayStyle::Block,
+        store,
+        work,
+        0,
+        write,
+        false,
+    ) {
+        Answer::Refused(r) => Answer::Refused(r),
+        Answer::Accepted(n) => {
+            if work.len() < n {
+                return Answer::Refused(Refusal::WorkTooSmall);
+            }
+            Answer::Accepted(n)
+        }
+    }
+}
+
+// Pass two, measured.
+fn second_pass(text: &[u8], store: &mut [u8]) -> Answer
+    requires { ⌜ length (now text) * growth < 2 ^ 64 ⌝ }
+    ensures { λ r. ⌜ (r ≡ answerOf (secondPass (length (now (store .entry))) (now (text .entry)))) × AtMost (length (now (text .entry)) * growth) r ⌝ }
+{
+    if odd_marks(text, false) {
+        return Answer::Refused(Refusal::InvalidNumberOfDollarSigns);
+    }
+    let mut none = [0u8; 1];
+    substitute(
+        text,
+        false,
+        DisplayStyle::Inline,
+        store,
+        &mut none,
+        0,
+        false,
+        false,
+    )
+}
+
+// Pass two, measured and then written.
+fn finish(text: &[u8], store: &mut [u8], out: &mut [u8]) -> Answer
+    requires { ⌜ length (now text) * growth < 2 ^ 64 ⌝ }
+    ensures { λ r. ⌜ Gives (inRoom (length (now (out .entry))) (secondPass (length (now (store .entry))) (now (text .entry)))) r (now (out .entry)) (now (out .exit)) ⌝ }
+{
+    match second_pass(text, store) {
+        Answer::Refused(r) => Answer::Refused(r),
+        Answer::Accepted(n) => {
+            if out.len() < n {
+                return Answer::Refused(Refusal::OutputTooSmall);
+            }
+            write_pass(text, false, DisplayStyle::Inline, store, out, 0);
+            Answer::Accepted(n)
+        }
+    }
+}
+
+// The replacement in a document.
+pub fn replace(document: &[u8], store: &mut [u8], work: &mut [u8], out: &mut [u8]) -> Answer
+    ensures { λ r. ⌜ Replaces (now (document .entry)) (length (now (store .entry))) r (now (work .entry)) (now (work .exit)) (now (out .entry)) (now (out .exit)) ⌝ }
+{
+    match first_pass(document, store, work, false) {
+        Answer::Refused(r) => Answer::Refused(r),
+        Answer::Accepted(n) => {
+            write_pass(document, true, DisplayStyle::Block, store, work, 0);
+            finish(&work[..n], store, out)
+        }
+    }
+}
+
+// The length of the replacement in a document, with an output long enough; the work buffer is left with any bytes.
+pub fn measure(document: &[u8], store: &mut [u8], work: &mut [u8]) -> Answer
+    ensures { λ r. ⌜ Measures (now (document .entry)) (length (now (store .entry))) (length (now (work .entry))) r ⌝ }
+{
+    match first_pass(document, store, work, true) {
+        Answer::Refused(r) => Answer::Refused(r),
+        Answer::Accepted(n) => second_pass(&work[..n], store),
+    }
+}
+
+// Writes the replacement that was measured at a place; the answer is the place behind it.
+pub fn write_replacement(
+    document: &[u8],
+    store: &mut [u8],
+    work: &mut [u8],
+    out: &mut [u8],
+    at: usize,
+) -> usize
+    requires { ⌜ Fits (replacement (now document) (length (now store)) (length (now work))) (now out) at ⌝ }
+    ensures { λ r. ⌜ WrittenThere (replacement (now (document .entry)) (length (now (store .entry))) (length (now (work .entry)))) (now (out .entry)) (now (out .exit)) at r ⌝ }
+{
+    let n = write_pass(document, true, DisplayStyle::Block, store, work, 0);
+    write_pass(&work[..n], false, DisplayStyle::Inline, store, out, at)
 }

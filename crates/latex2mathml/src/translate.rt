@@ -9,17 +9,12 @@ use print::Place;
 use print::print_nodes;
 use text::put::put;
 use text::well_formed;
-ghost use mathlib.Core.Path.{_≡_};
-ghost use mathlib.Core.List.{_++_};
 ghost use lib.ListN.{length};
-ghost use Rattle.text.specs.Text.{bytes};
 ghost use Rattle.text.specs.Put.{Room, Puts};
-ghost use Rattle.attribute.specs.Names.{displayStyle};
 ghost use Rattle.markup.specs.Print.{printAll};
 ghost use Rattle.print.specs.Shown.{NodesAt, Printable, Prints};
-ghost use Rattle.latex2mathml.specs.Translate.{inMath, translate};
-ghost use Rattle.latex2mathml.specs.Outcome.{bytesOf};
-ghost use Rattle.latex2mathml.specs.Written.{opening, answerOf, over};
+ghost use Rattle.latex2mathml.specs.Translate.{inMath};
+ghost use Rattle.latex2mathml.specs.Written.{opening, Translates};
 
 // Puts the opening tag of the wrapper.
 fn put_opening(display: DisplayStyle, out: &mut [u8], at: usize, write: bool) -> usize
@@ -58,7 +53,7 @@ pub fn put_math(
 
 // The markup of a body, with the nodes of its tree in a lent store: measured, then written.
 pub fn latex_to_mathml(s: &[u8], display: DisplayStyle, store: &mut [u8], out: &mut [u8]) -> Answer
-    ensures { λ r. ⌜ (r ≡ answerOf (translate (now (s .entry)) display (length (now (store .entry))) (length (now (out .entry))))) × (now (out .exit) ≡ over (bytesOf (translate (now (s .entry)) display (length (now (store .entry))) (length (now (out .entry))))) (now (out .entry))) ⌝ }
+    ensures { λ r. ⌜ Translates (now (s .entry)) display (length (now (store .entry))) r (now (out .entry)) (now (out .exit)) ⌝ }
 {
     if 4096 < s.len() {
         return Answer::Refused(Refusal::TooLong);

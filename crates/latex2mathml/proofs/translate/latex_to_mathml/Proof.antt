@@ -18,7 +18,7 @@ use Rattle.text.proofs.well_formed.Reads as well-formed-reads
 returns : tie.Need-returns
 returns c =
     let g = gives-nothing ((c .before .before .before .before .args) .out .now) (too-long ((c .before .before .before .before .args) .s .now) ((c .before .before .before .before .args) .display) (length ((c .before .before .before .before .args) .store .now)) (length ((c .before .before .before .before .args) .out .now)) ((c .if1) .taken)) in
-    (g .answer, g .output)
+    g
 
 well-formed-requires : tie.Need-well-formed-requires
 well-formed-requires c κs = search needs
@@ -26,7 +26,7 @@ well-formed-requires c κs = search needs
 returns-2 : tie.Need-returns-2
 returns-2 c =
     let g = gives-nothing ((c .before .before .before .before .before .before .args) .out .now) (ill-formed ((c .before .before .before .before .before .before .args) .s .now) ((c .before .before .before .before .before .before .args) .display) (length ((c .before .before .before .before .before .before .args) .store .now)) (length ((c .before .before .before .before .before .before .args) .out .now)) ((c .before .before .if1) .left) (sym ((c .before .well-formed) .ensures) ∙ not-true _ ((c .if2) .taken))) in
-    (g .answer, g .output)
+    g
 
 parse-requires : tie.Need-parse-requires
 parse-requires c κs = search needs
@@ -58,7 +58,7 @@ returns-3 : tie.Need-returns-3
 returns-3 c =
     let b = rw ((c .before .before .before .before .before .before .before .first) .given .1) at ((c .before .before .before .before .before .before .before .before .before .before .before .parse) .ensures) in
     let g = too-large (length ((c .before .before .before .before .before .before .before .before .before .before .before .before .before .before .before .before .before .before .before .args) .store .now)) b ((c .before .before .before .before .before .before .before .before .before .before .before .before .before .before .before .before .before .before .before .args) .display) ((c .before .before .before .before .before .before .before .before .before .before .before .before .before .before .before .if1) .left) ((c .before .before .before .put-math) .ensures) (sym ((c .before .before .before .before .before .before .before .before .before .before .before .before .before .before .well-formed) .ensures) ∙ not-false _ ((c .before .before .before .before .before .before .before .before .before .before .before .before .before .if2) .left)) ((c .if3) .taken) in
-    (g .answer, g .output)
+    g
 
 put-math-requires-2 : tie.Need-put-math-requires-2
 put-math-requires-2 c κs =
@@ -72,7 +72,7 @@ returns-4 : tie.Need-returns-4
 returns-4 c =
     let b = rw ((c .before .r) .given .1) at ((c .before .before .before .before .before .parse) .ensures) in
     let g = gives-nothing ((c .before .before .before .before .before .before .before .before .before .before .before .before .before .args) .out .now) (body-no ((c .before .before .before .before .before .before .before .before .before .before .before .before .before .args) .s .now) ((c .before .before .before .before .before .before .before .before .before .before .before .before .before .args) .display) (length ((c .before .before .before .before .before .before .before .before .before .before .before .before .before .args) .store .now)) (length ((c .before .before .before .before .before .before .before .before .before .before .before .before .before .args) .out .now)) ((c .before .before .before .before .before .before .before .before .before .if1) .left) (sym ((c .before .before .before .before .before .before .before .before .well-formed) .ensures) ∙ not-false _ ((c .before .before .before .before .before .before .before .if2) .left)) b) in
-    (g .answer, g .output)
+    g
 
 same-length-4 : tie.Need-same-length-4
 same-length-4 c = search needs
@@ -84,7 +84,7 @@ returns-5 : tie.Need-returns-5
 returns-5 c =
     let b = rw ((c .before .before .before .before .before .before .before .before .before .before .before .before .first) .given .1) at ((c .before .before .before .before .before .before .before .before .before .before .before .before .before .before .before .before .parse) .ensures) in
     let g = written (length ((c .before .before .before .before .before .before .before .before .before .before .before .before .before .before .before .before .before .before .before .before .before .before .before .before .args) .store .now)) b ((c .before .before .before .before .before .before .before .before .before .before .before .before .before .before .before .before .before .before .before .before .before .before .before .before .args) .display) ((c .before .before .before .before .before .before .before .before .before .before .before .before .before .before .before .before .before .before .before .before .if1) .left) ((c .before .before .before .before .before .before .before .before .put-math) .ensures) (sym ((c .before .before .before .before .before .before .before .before .before .before .before .before .before .before .before .before .before .before .before .well-formed) .ensures) ∙ not-false _ ((c .before .before .before .before .before .before .before .before .before .before .before .before .before .before .before .before .before .before .if2) .left)) ((c .before .before .before .before .before .if3) .left) ((c .before .before .put-math2) .ensures) in
-    (g .answer, g .output)
+    g
 
 pub latex-to-mathml-spec : {M : Type 1} → statement M
 latex-to-mathml-spec =

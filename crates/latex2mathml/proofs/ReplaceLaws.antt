@@ -1,0 +1,380 @@
+-- The two passes of a replacement, test by test.
+-- Assumes nothing.
+use mathlib.Core.Path.{_≡_, refl, sym, _∙_, ap}
+use mathlib.Core.Bool.{Bool, true, false, not, false≢true}
+use mathlib.Core.List.{List, [], _++_}
+use Prim.Native.Nat.{ℕ, _+_, _*_, _^_, _≤_, _<_}
+use native.Mathlib.Omega.{arith}
+use native.Mathlib.Nat.{mul-le-mul-right}
+use lib.Dec.{ltb}
+use lib.ListN.{length, take, drop, length-append}
+use lib.Seq.{take-at, length-take-le}
+use borrow.Author.Tests.{ltb-true, ltb-false, lt-ltb, le-ltb}
+use Rattle.text.specs.Utf8.{wellFormed}
+use Rattle.text.specs.Put.{Puts}
+use Rattle.text.proofs.Cases.{never, by-test}
+use Rattle.text.proofs.PutLaws.{puts-all}
+use Rattle.attribute.specs.declared.DisplayStyle.{DisplayStyle}
+use Rattle.error.specs.declared.Refusal.{Refusal}
+use Rattle.latex2mathml.specs.declared.Answer.{Answer}
+use Rattle.latex2mathml.specs.Outcome.{Outcome, accepted, refused, _>>=_, refuse, bytesOf, documentLimit}
+use Rattle.latex2mathml.specs.Replace.{dollar, twoDollars, threeDollars, places, odd, firstPass, secondPass, replacement, replaceOutcome, replace}
+use Rattle.latex2mathml.specs.Written.{answerOf, over, Gives, Replaces}
+use Rattle.latex2mathml.specs.Laid.{LaidThere, Lays, Fits, WrittenThere, inRoom, passed, growth, Passable, AtMost, Measures}
+use Rattle.latex2mathml.proofs.TranslateLaws.{gives-nothing, gives-markup}
+use Rattle.latex2mathml.proofs.LayLaws.{laid-kept}
+
+-- ---- answers and outcomes
+
+-- an outcome that is answered by a length is accepted with a text of that length
+pub record Accepts (want : Outcome (List ℕ)) (n : ℕ) : Type 0 where
+  pub text : List ℕ
+  pub is : want ≡ accepted text
+  pub long : n ≡ length text
+
+pub answer-accepted : (want : Outcome (List ℕ)) (n : ℕ) → Answer.Accepted n ≡ answerOf want → Accepts want n
+unfolding answerOf
+answer-accepted (accepted l) n e = record { text = l; is = refl; long = cc }
+answer-accepted (refused r) n e = never cc
+
+pub answer-refused : (want : Outcome (List ℕ)) (r : Refusal) → Answer.Refused r ≡ answerOf want → want ≡ refused r
+unfolding answerOf
+answer-refused (accepted l) r e = never cc
+answer-refused (refused q) r e = let z : r ≡ q = cc in rw z
+
+pub lays-answer : (want : Outcome (List ℕ)) (write : Bool) (o o′ : List ℕ) (r : Answer) → Lays want write o o′ 0 r → r ≡ answerOf want
+unfolding answerOf
+lays-answer want write o o′ (Answer.Accepted n) h =
+    let e = h .place in
+    rw (h .is) (ap (λ x. Answer.Accepted x) (omega arith))
+lays-answer want write o o′ (Answer.Refused r) h = rw (h .0)
+
+pub at-most : (m n : ℕ) (r : Answer) → m ≤ n → AtMost m r → AtMost n r
+at-most m n (Answer.Accepted k) h l = omega arith
+at-most m n (Answer.Refused r) h l = tt
+
+-- what was measured is written
+pub written-there : {want : Outcome (List ℕ)} {o o′ : List ℕ} {at r : ℕ} → Fits want o at → LaidThere want true o o′ at r → WrittenThere want o o′ at r
+written-there f q =
+    let same : f .text ≡ q .text = cc in
+    let n = ap length same in
+    let room = f .inside in
+    record { text = q .text; is = q .is; puts = record { place = q .place; output = q .laid (omega arith) } }
+
+-- ---- pass one
+
+module _ (d : List ℕ) (store work : ℕ) where
+  pub first-long : 32768 < length d → firstPass d store work ≡ refused Refusal.TooLong
+  unfolding firstPass refuse _>>=_ documentLimit
+  first-long h = rw (firstPass, lt-ltb 32768 (length d) h)
+
+  module _ (short : length d ≤ 32768) where
+    pub first-ill-formed : wellFormed d ≡ false → firstPass d store work ≡ refused Refusal.IllFormed
+    unfolding firstPass refuse _>>=_ documentLimit
+    first-ill-formed e = rw (firstPass, le-ltb 32768 (length d) short, e)
+
+    module _ (well : wellFormed d ≡ true) where
+      pub first-odd : odd (places twoDollars 0 d) ≡ true → firstPass d store work ≡ refused Refusal.InvalidNumberOfDollarSigns
+      unfolding firstPass refuse _>>=_ documentLimit
+      first-odd e = rw (firstPass, le-ltb 32768 (length d) short, well, e)
+
+      pub first-three : odd (places twoDollars 0 d) ≡ false → ltb 0 (length (places threeDollars 0 d)) ≡ true
+          → firstPass d store work ≡ refused Refusal.ThreeDollarSigns
+      unfolding firstPass refuse _>>=_ documentLimit
+      first-three even e = rw (firstPass, le-ltb 32768 (length d) short, well, even, e)
+
+-- a document whose bodies are looked at
+pub record Checked (d : List ℕ) : Type 0 where
+  pub short : length d ≤ 32768
+  pub well : wellFormed d ≡ true
+  pub even : odd (places twoDollars 0 d) ≡ false
+  pub apart : ltb 0 (length (places threeDollars 0 d)) ≡ false
+
+module _ (d : List ℕ) (store work : ℕ) where
+  first-is : Checked d → firstPass d store work ≡ (passed store DisplayStyle.Block true d >>= (λ text. refuse (ltb work (length text)) Refusal.WorkTooSmall >>= (λ _. accepted text)))
+  unfolding firstPass refuse _>>=_ documentLimit
+  first-is h = rw (firstPass, le-ltb 32768 (length d) (h .short), h .well, h .even, h .apart)
+
+  module _ (write : Bool) (w w′ : List ℕ) (h : Checked d) (lent : work ≡ length w) where
+    pub first-refused : (r : Refusal) → Lays (passed store DisplayStyle.Block true d) write w w′ 0 (Answer.Refused r)
+        → Lays (firstPass d store work) write w w′ 0 (Answer.Refused r)
+    unfolding _>>=_
+    first-refused r (is, kept) = (first-is h ∙ rw is, kept)
+
+    pub first-large : (n : ℕ) → LaidThere (passed store DisplayStyle.Block true d) write w w′ 0 n → length w′ ≡ length w → length w′ < n
+        → Lays (firstPass d store work) write w w′ 0 (Answer.Refused Refusal.WorkTooSmall)
+    unfolding refuse _>>=_
+    first-large n q same l =
+        let e = q .place in
+        (first-is h ∙ rw (q .is, lt-ltb work (length (q .text)) (omega arith)), laid-kept write w w′ 0 (q .text) (q .laid))
+
+    pub first-fits : (n : ℕ) → LaidThere (passed store DisplayStyle.Block true d) write w w′ 0 n → length w′ ≡ length w → n ≤ length w′
+        → LaidThere (firstPass d store work) write w w′ 0 n
+    unfolding refuse _>>=_
+    first-fits n q same l =
+        let e = q .place in
+        record { text = q .text; is = first-is h ∙ rw (q .is, le-ltb work (length (q .text)) (omega arith)); place = q .place; laid = q .laid }
+
+  -- what an accepted pass one says of the document
+  pub record First (text : List ℕ) : Type 0 where
+    pub checked : Checked d
+    pub is : passed store DisplayStyle.Block true d ≡ accepted text
+    pub inside : length text ≤ work
+
+  module _ (text : List ℕ) (is : firstPass d store work ≡ accepted text) where
+    first-passed : (h : Checked d) (want : Outcome (List ℕ)) → passed store DisplayStyle.Block true d ≡ want → First text
+    unfolding refuse _>>=_
+    first-passed h (refused r) e = let z = rw e at (sym (first-is h) ∙ is) in never cc
+    first-passed h (accepted l) e =
+        let z = rw e at (sym (first-is h) ∙ is) in
+        by-test (ltb work (length l))
+        (λ t. let y = rw t at z in never cc)
+        (λ t.
+        let y = rw t at z in
+        let same : l ≡ text = cc in
+        let n = ltb-false work (length l) t in
+        let m = ap length same in
+        record { checked = h; is = e ∙ ap (λ x. accepted x) same; inside = omega arith })
+
+    pub first-accepted : First text
+    first-accepted =
+        by-test (ltb 32768 (length d))
+        (λ t. let z = first-long d store work (ltb-true 32768 (length d) t) in never cc)
+        (λ t.
+        let short = ltb-false 32768 (length d) t in
+        by-test (wellFormed d)
+        (λ well.
+        by-test (odd (places twoDollars 0 d))
+        (λ e. let z = first-odd d store work short well e in never cc)
+        (λ even.
+        by-test (ltb 0 (length (places threeDollars 0 d)))
+        (λ e. let z = first-three d store work short well even e in never cc)
+        (λ apart.
+        first-passed (record { short = short; well = well; even = even; apart = apart }) (passed store DisplayStyle.Block true d) refl)))
+        (λ e. let z = first-ill-formed d store work short e in never cc))
+
+    pub first-passable : (w : List ℕ) → work ≡ length w → Passable store DisplayStyle.Block true d true w 0
+    first-passable w lent =
+        let f = first-accepted in
+        let short = f .checked .short in
+        let room = f .inside in
+        record {
+          small = omega arith;
+          even = f .checked .even;
+          apart = λ e. f .checked .apart;
+          fits = λ e. record { text = text; is = f .is; inside = omega arith };
+        }
+
+pub checked-passable : (d : List ℕ) (store : ℕ) (w : List ℕ) → Checked d → Passable store DisplayStyle.Block true d false w 0
+checked-passable d store w h =
+    let short = h .short in
+    record { small = omega arith; even = h .even; apart = λ e. h .apart; fits = λ e. never cc }
+
+-- ---- pass two
+
+module _ (store : ℕ) (text : List ℕ) where
+  pub second-odd : odd (places dollar 0 text) ≡ true → secondPass store text ≡ refused Refusal.InvalidNumberOfDollarSigns
+  unfolding secondPass refuse _>>=_
+  second-odd e = rw (secondPass, e)
+
+  pub second-is : odd (places dollar 0 text) ≡ false → secondPass store text ≡ passed store DisplayStyle.Inline false text
+  unfolding secondPass refuse _>>=_
+  second-is e = rw (secondPass, e)
+
+  pub second-able : (o : List ℕ) → length text * growth < 2 ^ 64 → odd (places dollar 0 text) ≡ false → Passable store DisplayStyle.Inline false text false o 0
+  second-able o small e = record { small = omega arith; even = e; apart = λ f. never cc; fits = λ f. never cc }
+
+  -- an accepted pass two can be written
+  module _ (m : List ℕ) (is : secondPass store text ≡ accepted m) where
+    second-even : odd (places dollar 0 text) ≡ false
+    second-even = by-test (odd (places dollar 0 text)) (λ e. let z = second-odd e in never cc) (λ e. e)
+
+    pub second-passed : passed store DisplayStyle.Inline false text ≡ accepted m
+    second-passed = sym (second-is second-even) ∙ is
+
+    pub second-written : {o o′ : List ℕ} {at r : ℕ} → WrittenThere (passed store DisplayStyle.Inline false text) o o′ at r → Puts true o o′ at m r
+    second-written q =
+        let same : q .text ≡ m = let z = q .is in let y = second-passed in cc in
+        rw (← same) (q .puts)
+
+    pub second-passable : (o : List ℕ) (at : ℕ) → at + length text * growth < 2 ^ 64 → at + length m ≤ length o → Passable store DisplayStyle.Inline false text true o at
+    second-passable o at small room = record {
+      small = small;
+      even = second-even;
+      apart = λ f. never cc;
+      fits = λ f. record { text = m; is = second-passed; inside = room };
+    }
+
+pub finish-refused : (want : Outcome (List ℕ)) (r : Refusal) (o : List ℕ) → Answer.Refused r ≡ answerOf want → Gives (inRoom (length o) want) (Answer.Refused r) o o
+unfolding _>>=_
+finish-refused want r o e = gives-nothing o (rw (answer-refused want r e))
+
+module _ (want : Outcome (List ℕ)) (n : ℕ) (o : List ℕ) (a : Accepts want n) where
+  pub too-small : length o < n → Gives (inRoom (length o) want) (Answer.Refused Refusal.OutputTooSmall) o o
+  unfolding refuse _>>=_
+  too-small l =
+      let e = a .long in
+      gives-nothing o (rw (a .is, lt-ltb (length o) (length (a .text)) (omega arith)))
+
+  pub finished : {o′ : List ℕ} {r : ℕ} → n ≤ length o → Puts true o o′ 0 (a .text) r → Gives (inRoom (length o) want) (Answer.Accepted n) o o′
+  unfolding refuse _>>=_
+  finished {o′} {r} l p =
+      let e = a .long in
+      gives-markup (rw (a .is, le-ltb (length o) (length (a .text)) (omega arith))) (omega arith) p
+
+-- ---- the text of pass one in the work buffer
+
+pub record Drafted (d : List ℕ) (store : ℕ) (w w′ : List ℕ) (n : ℕ) : Type 0 where
+  pub text : List ℕ
+  pub first : firstPass d store (length w) ≡ accepted text
+  pub long : n ≡ length text
+  pub inside : n ≤ length w′
+  pub front : take n w′ ≡ text
+  pub output : w′ ≡ over text w
+  pub short : length d ≤ 32768
+  pub most : n ≤ length d * growth
+
+module _ (d : List ℕ) (store : ℕ) (w w′ : List ℕ) (n : ℕ) where
+  drafted : (text : List ℕ) {r : ℕ} → firstPass d store (length w) ≡ accepted text → Puts true w w′ 0 text r → n ≡ length text → length w′ ≡ length w
+      → n ≤ length d * growth → Drafted d store w w′ n
+  unfolding over
+  drafted text is p long same most =
+      let f = first-accepted d store (length w) text is in
+      let room = f .inside in
+      record {
+        text = text;
+        first = is;
+        long = long;
+        inside = omega arith;
+        front = rw (puts-all p) (take-at text (drop (length text) w) n (sym long));
+        output = puts-all p;
+        short = f .checked .short;
+        most = most;
+      }
+
+  -- written at once, as it fits
+  pub drafted-laid : LaidThere (firstPass d store (length w)) true w w′ 0 n → length w′ ≡ length w → n ≤ length d * growth → Drafted d store w w′ n
+  drafted-laid q same most =
+      let f = first-accepted d store (length w) (q .text) (q .is) in
+      let room = f .inside in
+      let place = q .place in
+      drafted (q .text) (q .is) (record { place = q .place; output = q .laid (omega arith) }) (omega arith) same most
+
+  -- written after it was measured
+  pub drafted-written : (text : List ℕ) {r : ℕ} → firstPass d store (length w) ≡ accepted text → WrittenThere (passed store DisplayStyle.Block true d) w w′ 0 r
+      → n ≡ length text → length w′ ≡ length w → n ≤ length d * growth → Drafted d store w w′ n
+  drafted-written text is q long same most =
+      let f = first-accepted d store (length w) text is .is in
+      let g = q .is in
+      let e : q .text ≡ text = cc in
+      drafted text is (rw e at (q .puts)) long same most
+
+  module _ (q : Drafted d store w w′ n) where
+    pub front-long : n ≡ length (take n w′)
+    front-long = sym (length-take-le n w′ (q .inside))
+
+    pub front-small : length (take n w′) * growth < 2 ^ 64
+    front-small =
+        let e = front-long in
+        let short = q .short in
+        let most = q .most in
+        omega arith
+
+-- ---- the replacement
+
+module _ (d : List ℕ) (store : ℕ) (w w₁ : List ℕ) (n : ℕ) (q : LaidThere (firstPass d store (length w)) false w w₁ 0 n) where
+  pub replace-passable : Passable store DisplayStyle.Block true d true w₁ 0
+  replace-passable = rw (q .laid) (first-passable d store (length w) (q .text) (q .is) w refl)
+
+  pub replace-drafted : (most : n ≤ length d * growth) (w₂ : List ℕ) {r : ℕ} → length w₂ ≡ length w₁ → WrittenThere (passed store DisplayStyle.Block true d) w₁ w₂ 0 r
+      → Drafted d store w w₂ n
+  replace-drafted most w₂ same first =
+      let e = q .place in
+      drafted-written d store w w₂ n (q .text) (q .is) (rw (q .laid) at first) (omega arith) (same ∙ ap length (q .laid)) most
+
+module _ (d : List ℕ) (store : ℕ) (w o : List ℕ) where
+  pub replace-refused : (w′ : List ℕ) (r : Refusal) → Lays (firstPass d store (length w)) false w w′ 0 (Answer.Refused r) → Replaces d store (Answer.Refused r) w w′ o o
+  unfolding replace replaceOutcome replacement _>>=_ bytesOf over
+  replace-refused w′ r (is, kept) = record { gives = gives-nothing o (rw is); work = rw is (kept refl) }
+
+  pub replace-accepted : {w′ o′ : List ℕ} {n : ℕ} (r : Answer) → (q : Drafted d store w w′ n)
+      → Gives (inRoom (length o) (secondPass store (take n w′))) r o o′ → Replaces d store r w w′ o o′
+  unfolding replace replaceOutcome replacement _>>=_ bytesOf
+  replace-accepted r q g = record { gives = rw (q .first) (rw (q .front) at g); work = rw (q .first) (q .output) }
+
+-- the replacement is pass two of the text of pass one
+pub replacement-is : (d : List ℕ) (store work : ℕ) (text : List ℕ) → firstPass d store work ≡ accepted text → replacement d store work ≡ secondPass store text
+unfolding replacement _>>=_
+replacement-is d store work text is = rw is
+
+pub replacement-refused : (d : List ℕ) (store work : ℕ) (r : Refusal) → firstPass d store work ≡ refused r → replacement d store work ≡ refused r
+unfolding replacement _>>=_
+replacement-refused d store work r is = rw is
+
+-- the replacement measured
+module _ (d : List ℕ) (store : ℕ) (w : List ℕ) where
+  pub measure-refused : (r : Refusal) → firstPass d store (length w) ≡ refused r → Measures d store (length w) (Answer.Refused r)
+  unfolding answerOf
+  measure-refused r is = record { answer = sym (ap answerOf (replacement-refused d store (length w) r is)); most = tt }
+
+  pub measure-accepted : (w′ : List ℕ) (n : ℕ) (r : Answer) → Drafted d store w w′ n
+      → r ≡ answerOf (secondPass store (take n w′)) → AtMost (length (take n w′) * growth) r → Measures d store (length w) r
+  measure-accepted w′ n r q e l =
+      let long = front-long d store w w′ n q in
+      let most = q .most in
+      record {
+        answer = rw (q .front) at e ∙ sym (ap answerOf (replacement-is d store (length w) (q .text) (q .first)));
+        most = at-most _ _ r (omega arith) l;
+      }
+
+-- an accepted replacement has both passes accepted
+pub record Both (d : List ℕ) (store work : ℕ) (m : List ℕ) : Type 0 where
+  pub text : List ℕ
+  pub first : firstPass d store work ≡ accepted text
+  pub second : secondPass store text ≡ accepted m
+
+pub both-accepted : (d : List ℕ) (store work : ℕ) (m : List ℕ) → replacement d store work ≡ accepted m → Both d store work m
+both-accepted d store work m is = by-first (firstPass d store work) refl
+  where
+    by-first : (want : Outcome (List ℕ)) → firstPass d store work ≡ want → Both d store work m
+    by-first (accepted text) e = record { text = text; first = e; second = sym (replacement-is d store work text e) ∙ is }
+    by-first (refused r) e = let z = replacement-refused d store work r e in never cc
+
+-- the replacement written at a place
+module _ (d : List ℕ) (store : ℕ) (w o : List ℕ) (at : ℕ) (f : Fits (replacement d store (length w)) o at) where
+  abbrev passes : Both d store (length w) (f .text)
+  passes = both-accepted d store (length w) (f .text) (f .is)
+
+  pub write-first : Passable store DisplayStyle.Block true d true w 0
+  write-first = first-passable d store (length w) (passes .text) (passes .first) w refl
+
+  module _ (w′ : List ℕ) (n : ℕ) (same : length w′ ≡ length w) (first : WrittenThere (passed store DisplayStyle.Block true d) w w′ 0 n) (most : n ≤ 0 + length d * growth) where
+    written-long : n ≡ length (passes .text)
+    written-long =
+        let g = first-accepted d store (length w) (passes .text) (passes .first) .is in
+        let h = first .is in
+        let e : first .text ≡ passes .text = cc in
+        let p = first .puts .place in
+        let z = ap length e in
+        omega arith
+
+    pub write-drafted : Drafted d store w w′ n
+    write-drafted = drafted-written d store w w′ n (passes .text) (passes .first) first written-long same (omega arith)
+
+    second-accepted : secondPass store (take n w′) ≡ accepted (f .text)
+    second-accepted =
+        let g = first-accepted d store (length w) (passes .text) (passes .first) .is in
+        let h = write-drafted .first in
+        let k = passes .first in
+        let e : write-drafted .text ≡ passes .text = cc in
+        rw (write-drafted .front, e) (passes .second)
+
+    pub write-second : at < 2 ^ 63 → Passable store DisplayStyle.Inline false (take n w′) true o at
+    write-second small =
+        let long = front-long d store w w′ n write-drafted in
+        let short = write-drafted .short in
+        second-passable store (take n w′) (f .text) second-accepted o at (omega arith) (f .inside)
+
+    pub write-done : {o′ : List ℕ} {r : ℕ} → WrittenThere (passed store DisplayStyle.Inline false (take n w′)) o o′ at r
+        → WrittenThere (replacement d store (length w)) o o′ at r
+    write-done q = record { text = f .text; is = f .is; puts = second-written store (take n w′) (f .text) second-accepted q }
