@@ -1,0 +1,57 @@
+-- The page operation's answer, by what was measured.
+-- Assumes nothing.
+use mathlib.Core.Path.{_≡_}
+use mathlib.Core.Bool.{true}
+use mathlib.Core.List.{List}
+use Prim.Native.Nat.{ℕ, _≤_, _<_}
+use native.Mathlib.Omega.{arith}
+use lib.ListN.{length}
+use borrow.Author.Tests.{lt-ltb, le-ltb}
+use Rattle.text.specs.Put.{Puts}
+use Rattle.text.proofs.PutLaws.{puts-all}
+use Rattle.error.specs.declared.Refusal.{Refusal}
+use Rattle.latex2mathml.specs.Outcome.{accepted, refused, _>>=_, refuse, documentLimit}
+use Rattle.latex2mathml.specs.Written.{over}
+use Rattle.page.specs.declared.PageAnswer.{PageAnswer}
+use Rattle.page.specs.declared.Totals.{Totals}
+use Rattle.page.specs.Pieces.{pieces}
+use Rattle.page.specs.Page.{shownAll, paragraphs, leftAll, page, outputOf}
+use Rattle.page.specs.Run.{answerOf, Pages}
+use Rattle.page.specs.Marks.{Totalled}
+
+-- a refused page leaves the output as it was
+pages-refused : (document : List ℕ) (store work : ℕ) (r : Refusal) (o : List ℕ) → page document store work (length o) ≡ refused r
+    → Pages document store work (PageAnswer.Refused r) o o
+unfolding answerOf outputOf over
+pages-refused document store work r o e = record { answer = rw e; output = rw e }
+
+module _ (document : List ℕ) (store work : ℕ) (o : List ℕ) where
+  pub pages-long : 32768 < length document → Pages document store work (PageAnswer.Refused Refusal.TooLong) o o
+  unfolding page documentLimit _>>=_ refuse
+  pages-long h = pages-refused document store work Refusal.TooLong o (rw (page, lt-ltb 32768 (length document) h))
+
+  module _ {m : List ℕ} {t : Totals} (few : length document ≤ 32768) (h : Totalled document store work m t) where
+    pub pages-full : length o < t .length → Pages document store work (PageAnswer.Refused Refusal.OutputTooSmall) o o
+    unfolding page documentLimit _>>=_ refuse
+    pages-full full =
+        let over-long = lt-ltb (length o) (length (shownAll store work (pieces document))) (omega (arith, h .long)) in
+        pages-refused document store work Refusal.OutputTooSmall o (rw (page, le-ltb 32768 (length document) few, over-long))
+
+    accepts : t .length ≤ length o
+        → page document store work (length o)
+        ≡ accepted (record {
+          output = shownAll store work (pieces document);
+          paragraphs = paragraphs (pieces document);
+          left = leftAll store work (pieces document);
+        })
+    unfolding page documentLimit _>>=_ refuse
+    accepts room =
+        rw (page, le-ltb 32768 (length document) few, le-ltb (length o) (length (shownAll store work (pieces document))) (omega (arith, h .long)))
+
+    pub pages-written : t .length ≤ length o → {o′ : List ℕ} {r : ℕ} → Puts true o o′ 0 (shownAll store work (pieces document)) r
+        → Pages document store work (PageAnswer.Accepted (t .length) (t .paragraphs) (t .left)) o o′
+    unfolding answerOf outputOf over
+    pages-written room puts = record {
+      answer = rw (accepts room, h .long, h .counted, h .kept);
+      output = rw (accepts room) (puts-all puts);
+    }

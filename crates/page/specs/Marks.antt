@@ -1,0 +1,32 @@
+-- What is measured of a page before it is written: how long it comes out, and which of its paragraphs are left as typed.
+-- Assumes nothing.
+use mathlib.Core.Path.{_≡_}
+use mathlib.Core.List.{List, [], _∷_}
+use Prim.Native.Nat.{ℕ, _*_, _≤_}
+use lib.ListN.{length, take, set}
+use Rattle.latex2mathml.specs.Laid.{growth}
+use Rattle.page.specs.declared.Totals.{Totals}
+use Rattle.page.specs.Pieces.{Pieces, last, piece, pieces}
+use Rattle.page.specs.Page.{shown, left, shownAll, paragraphs, leftAll}
+
+-- a mark for each paragraph: 1 where it is left as typed, else 0
+unfoldable pub marks : ℕ → ℕ → Pieces → List ℕ
+marks store work (last paragraph) = left store work paragraph ∷ []
+marks store work (piece paragraph break rest) = left store work paragraph ∷ marks store work rest
+
+-- the marks of a document stand at the front of m
+abbrev pub Marked : List ℕ → ℕ → ℕ → List ℕ → Type 0
+Marked document store work m = take (paragraphs (pieces document)) m ≡ marks store work (pieces document)
+
+-- the paragraph p comes out r bytes long, not too many to be counted, and its mark is put at k of m, which gives m′
+pub record Measured (p : List ℕ) (store work : ℕ) (m m′ : List ℕ) (k r : ℕ) : Type 0 where
+  pub long : r ≡ length (shown store work p)
+  pub most : r ≤ length p * (growth * growth)
+  pub mark : m′ ≡ set m k (left store work p)
+
+-- r are the totals of a document, and m has its marks
+pub record Totalled (document : List ℕ) (store work : ℕ) (m : List ℕ) (r : Totals) : Type 0 where
+  pub long : r .length ≡ length (shownAll store work (pieces document))
+  pub counted : r .paragraphs ≡ paragraphs (pieces document)
+  pub kept : r .left ≡ leftAll store work (pieces document)
+  pub marked : Marked document store work m
