@@ -120,8 +120,9 @@ module _ {s st : List ℕ} {first n hi : ℕ} (store : ℕ) (b : StoresBody s st
     pub lay-sure : {write : Bool} {o′ : List ℕ} {r : ℕ} → sure ≡ true
         → Prints (NodesAt s st hi first n) (λ ns. inMath display (printAll s ns)) write o o′ at r → LaidThere (translateBody store display s) write o o′ at r
     lay-sure {write} e p =
-        let q = p .all (b .nodes) there (room-sure write (room-for text is) e) in
-        record { text = text; is = is; place = q .place; laid = laid-puts write q }
+        let room = room-sure write (room-for text is) e in
+        let q = p .all (b .nodes) there room in
+        record { text = text; is = is; place = q .place; laid = laid-puts write (λ t. let f = room .inside t in omega arith) q }
 
     module _ {o₁ : List ℕ} {r : ℕ} (counted : Prints (NodesAt s st hi first n) (λ ns. inMath display (printAll s ns)) false o o₁ at r) where
       count : Puts false o o₁ at text r
@@ -153,4 +154,4 @@ module _ {s st : List ℕ} {first n hi : ℕ} (store : ℕ) (b : StoresBody s st
           → Prints (NodesAt s st hi first n) (λ ns. inMath display (printAll s ns)) true o₁ o₂ at r₂ → LaidThere (translateBody store display s) true o o₂ at r
       lay-fitting h p =
           let q = (rw unchanged at p) .all (b .nodes) there (fitting h) in
-          record { text = text; is = is; place = count .place; laid = laid-puts true q }
+          record { text = text; is = is; place = count .place; laid = laid-puts true (λ t. let f = fitting h .inside t in omega arith) q }

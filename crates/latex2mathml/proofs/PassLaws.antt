@@ -20,7 +20,7 @@ use Rattle.latex2mathml.specs.Replace.{threeDollars, places, odd, transl
 use Rattle.latex2mathml.specs.Dollars.{mark, width, nextPlace}
 use Rattle.latex2mathml.specs.Laid.{Laid, LaidThere, Lays, RoomFor, Fits, passed, growth, Passable, AtMost}
 use Rattle.latex2mathml.proofs.TranslateLaws.{translated-short}
-use Rattle.latex2mathml.proofs.LayLaws.{laid-nothing, laid-more, laid-kept}
+use Rattle.latex2mathml.proofs.LayLaws.{laid-nothing, laid-more, laid-kept, laid-front, front-less}
 use Rattle.latex2mathml.proofs.PlaceLaws.{places-none}
 use Rattle.latex2mathml.proofs.DollarLaws.{Pair}
 
@@ -191,8 +191,15 @@ module _ (store : ℕ) (display : DisplayStyle) (double : Bool) (s : List ℕ) (
             → Lays (translateBody store display (part (a + w) b s)) write o₁ o₂ at₁ (Answer.Refused r)
             → Lays (passed store display double s) write o₀ o₂ start (Answer.Refused r) × AtMost (start + length s * growth) (Answer.Refused r)
         unfolding substitute _>>=_
-        passing-refused r (is, kept) =
-            ((h .whole ∙ rw (p .marks, substitute, is), λ e. kept e ∙ laid-kept write o₀ o₁ start _ (prose .laid) e), tt)
+        passing-refused r (is, kept, front) =
+            let place₁ = prose .place in (
+              (
+                h .whole ∙ rw (p .marks, substitute, is),
+                λ e. kept e ∙ laid-kept write o₀ o₁ start _ (prose .laid) e,
+                front-less start at₁ _ _ (omega arith) front ∙ laid-front write o₀ o₁ start _ (prose .laid),
+              ),
+              tt,
+            )
 
         pub passing-more : {o₂ : List ℕ} (r : ℕ) → length o₂ ≡ length o₁
             → Lays (translateBody store display (part (a + w) b s)) write o₁ o₂ at₁ (Answer.Accepted r)

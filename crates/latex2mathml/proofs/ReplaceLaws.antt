@@ -20,34 +20,11 @@ use Rattle.latex2mathml.specs.declared.Answer.{Answer}
 use Rattle.latex2mathml.specs.Outcome.{Outcome, accepted, refused, _>>=_, refuse, bytesOf, documentLimit}
 use Rattle.latex2mathml.specs.Replace.{dollar, twoDollars, threeDollars, places, odd, firstPass, secondPass, replacement, replaceOutcome, replace}
 use Rattle.latex2mathml.specs.Written.{answerOf, over, Gives, Replaces}
-use Rattle.latex2mathml.specs.Laid.{LaidThere, Lays, Fits, WrittenThere, inRoom, passed, growth, Passable, AtMost, Measures}
+use Rattle.latex2mathml.specs.Laid.{LaidThere, Lays, Fits, WrittenThere, inRoom, passed, growth, Passable, AtMost}
 use Rattle.latex2mathml.proofs.TranslateLaws.{gives-nothing, gives-markup}
-use Rattle.latex2mathml.proofs.LayLaws.{laid-kept}
+use Rattle.latex2mathml.proofs.LayLaws.{laid-kept, laid-front}
 
 -- ---- answers and outcomes
-
--- an outcome that is answered by a length is accepted with a text of that length
-pub record Accepts (want : Outcome (List ℕ)) (n : ℕ) : Type 0 where
-  pub text : List ℕ
-  pub is : want ≡ accepted text
-  pub long : n ≡ length text
-
-pub answer-accepted : (want : Outcome (List ℕ)) (n : ℕ) → Answer.Accepted n ≡ answerOf want → Accepts want n
-unfolding answerOf
-answer-accepted (accepted l) n e = record { text = l; is = refl; long = cc }
-answer-accepted (refused r) n e = never cc
-
-pub answer-refused : (want : Outcome (List ℕ)) (r : Refusal) → Answer.Refused r ≡ answerOf want → want ≡ refused r
-unfolding answerOf
-answer-refused (accepted l) r e = never cc
-answer-refused (refused q) r e = let z : r ≡ q = cc in rw z
-
-pub lays-answer : (want : Outcome (List ℕ)) (write : Bool) (o o′ : List ℕ) (r : Answer) → Lays want write o o′ 0 r → r ≡ answerOf want
-unfolding answerOf
-lays-answer want write o o′ (Answer.Accepted n) h =
-    let e = h .place in
-    rw (h .is) (ap (λ x. Answer.Accepted x) (omega arith))
-lays-answer want write o o′ (Answer.Refused r) h = rw (h .0)
 
 pub at-most : (m n : ℕ) (r : Answer) → m ≤ n → AtMost m r → AtMost n r
 at-most m n (Answer.Accepted k) h l = omega arith
@@ -59,7 +36,7 @@ written-there f q =
     let same : f .text ≡ q .text = cc in
     let n = ap length same in
     let room = f .inside in
-    record { text = q .text; is = q .is; puts = record { place = q .place; output = q .laid (omega arith) } }
+    record { text = q .text; is = q .is; puts = record { place = q .place; output = q .laid .0 (omega arith) } }
 
 -- ---- pass one
 
@@ -99,14 +76,14 @@ module _ (d : List ℕ) (store work : ℕ) where
     pub first-refused : (r : Refusal) → Lays (passed store DisplayStyle.Block true d) write w w′ 0 (Answer.Refused r)
         → Lays (firstPass d store work) write w w′ 0 (Answer.Refused r)
     unfolding _>>=_
-    first-refused r (is, kept) = (first-is h ∙ rw is, kept)
+    first-refused r (is, kept, front) = (first-is h ∙ rw is, kept, front)
 
     pub first-large : (n : ℕ) → LaidThere (passed store DisplayStyle.Block true d) write w w′ 0 n → length w′ ≡ length w → length w′ < n
         → Lays (firstPass d store work) write w w′ 0 (Answer.Refused Refusal.WorkTooSmall)
     unfolding refuse _>>=_
     first-large n q same l =
         let e = q .place in
-        (first-is h ∙ rw (q .is, lt-ltb work (length (q .text)) (omega arith)), laid-kept write w w′ 0 (q .text) (q .laid))
+        (first-is h ∙ rw (q .is, lt-ltb work (length (q .text)) (omega arith)), laid-kept write w w′ 0 (q .text) (q .laid), laid-front write w w′ 0 (q .text) (q .laid))
 
     pub first-fits : (n : ℕ) → LaidThere (passed store DisplayStyle.Block true d) write w w′ 0 n → length w′ ≡ length w → n ≤ length w′
         → LaidThere (firstPass d store work) write w w′ 0 n
@@ -181,8 +158,8 @@ module _ (store : ℕ) (text : List ℕ) where
   unfolding secondPass refuse _>>=_
   second-is e = rw (secondPass, e)
 
-  pub second-able : (o : List ℕ) → length text * growth < 2 ^ 64 → odd (places dollar 0 text) ≡ false → Passable store DisplayStyle.Inline false text false o 0
-  second-able o small e = record { small = omega arith; even = e; apart = λ f. never cc; fits = λ f. never cc }
+  pub second-able : (o : List ℕ) (at : ℕ) → at + length text * growth < 2 ^ 64 → odd (places dollar 0 text) ≡ false → Passable store DisplayStyle.Inline false text false o at
+  second-able o at small e = record { small = small; even = e; apart = λ f. never cc; fits = λ f. never cc }
 
   -- an accepted pass two can be written
   module _ (m : List ℕ) (is : secondPass store text ≡ accepted m) where
@@ -205,22 +182,24 @@ module _ (store : ℕ) (text : List ℕ) where
       fits = λ f. record { text = m; is = second-passed; inside = room };
     }
 
-pub finish-refused : (want : Outcome (List ℕ)) (r : Refusal) (o : List ℕ) → Answer.Refused r ≡ answerOf want → Gives (inRoom (length o) want) (Answer.Refused r) o o
+pub finish-refused : (want : Outcome (List ℕ)) (r : Refusal) (o o′ : List ℕ) → Lays want false o o′ 0 (Answer.Refused r) → Gives (inRoom (length o) want) (Answer.Refused r) o o′
 unfolding _>>=_
-finish-refused want r o e = gives-nothing o (rw (answer-refused want r e))
+finish-refused want r o o′ (is, kept, front) = rw (kept refl) (gives-nothing o (rw is))
 
-module _ (want : Outcome (List ℕ)) (n : ℕ) (o : List ℕ) (a : Accepts want n) where
-  pub too-small : length o < n → Gives (inRoom (length o) want) (Answer.Refused Refusal.OutputTooSmall) o o
+module _ (want : Outcome (List ℕ)) (n : ℕ) (o o₁ : List ℕ) (a : LaidThere want false o o₁ 0 n) where
+  pub too-small : length o₁ < n → Gives (inRoom (length o) want) (Answer.Refused Refusal.OutputTooSmall) o o₁
   unfolding refuse _>>=_
   too-small l =
-      let e = a .long in
-      gives-nothing o (rw (a .is, lt-ltb (length o) (length (a .text)) (omega arith)))
+      let e = a .place in
+      let z = ap length (a .laid) in
+      rw (a .laid) (gives-nothing o (rw (a .is, lt-ltb (length o) (length (a .text)) (omega arith))))
 
-  pub finished : {o′ : List ℕ} {r : ℕ} → n ≤ length o → Puts true o o′ 0 (a .text) r → Gives (inRoom (length o) want) (Answer.Accepted n) o o′
+  pub finished : {o′ : List ℕ} {r : ℕ} → n ≤ length o₁ → Puts true o₁ o′ 0 (a .text) r → Gives (inRoom (length o) want) (Answer.Accepted n) o o′
   unfolding refuse _>>=_
   finished {o′} {r} l p =
-      let e = a .long in
-      gives-markup (rw (a .is, le-ltb (length o) (length (a .text)) (omega arith))) (omega arith) p
+      let e = a .place in
+      let z = ap length (a .laid) in
+      gives-markup (rw (a .is, le-ltb (length o) (length (a .text)) (omega arith))) (omega arith) (rw (a .laid) at p)
 
 -- ---- the text of pass one in the work buffer
 
@@ -258,7 +237,7 @@ module _ (d : List ℕ) (store : ℕ) (w w′ : List ℕ) (n : ℕ) where
       let f = first-accepted d store (length w) (q .text) (q .is) in
       let room = f .inside in
       let place = q .place in
-      drafted (q .text) (q .is) (record { place = q .place; output = q .laid (omega arith) }) (omega arith) same most
+      drafted (q .text) (q .is) (record { place = q .place; output = q .laid .0 (omega arith) }) (omega arith) same most
 
   -- written after it was measured
   pub drafted-written : (text : List ℕ) {r : ℕ} → firstPass d store (length w) ≡ accepted text → WrittenThere (passed store DisplayStyle.Block true d) w w′ 0 r
@@ -273,7 +252,7 @@ module _ (d : List ℕ) (store : ℕ) (w w′ : List ℕ) (n : ℕ) where
     pub front-long : n ≡ length (take n w′)
     front-long = sym (length-take-le n w′ (q .inside))
 
-    pub front-small : length (take n w′) * growth < 2 ^ 64
+    pub front-small : length (take n w′) * growth < 2 ^ 63
     front-small =
         let e = front-long in
         let short = q .short in
@@ -295,7 +274,7 @@ module _ (d : List ℕ) (store : ℕ) (w w₁ : List ℕ) (n : ℕ) (q : LaidThe
 module _ (d : List ℕ) (store : ℕ) (w o : List ℕ) where
   pub replace-refused : (w′ : List ℕ) (r : Refusal) → Lays (firstPass d store (length w)) false w w′ 0 (Answer.Refused r) → Replaces d store (Answer.Refused r) w w′ o o
   unfolding replace replaceOutcome replacement _>>=_ bytesOf over
-  replace-refused w′ r (is, kept) = record { gives = gives-nothing o (rw is); work = rw is (kept refl) }
+  replace-refused w′ r (is, kept, front) = record { gives = gives-nothing o (rw is); work = rw is (kept refl) }
 
   pub replace-accepted : {w′ o′ : List ℕ} {n : ℕ} (r : Answer) → (q : Drafted d store w w′ n)
       → Gives (inRoom (length o) (secondPass store (take n w′))) r o o′ → Replaces d store r w w′ o o′
@@ -311,21 +290,19 @@ pub replacement-refused : (d : List ℕ) (store work : ℕ) (r : Refusal) → fi
 unfolding replacement _>>=_
 replacement-refused d store work r is = rw is
 
--- the replacement measured
-module _ (d : List ℕ) (store : ℕ) (w : List ℕ) where
-  pub measure-refused : (r : Refusal) → firstPass d store (length w) ≡ refused r → Measures d store (length w) (Answer.Refused r)
-  unfolding answerOf
-  measure-refused r is = record { answer = sym (ap answerOf (replacement-refused d store (length w) r is)); most = tt }
+-- the replacement laid at a place
+module _ (d : List ℕ) (store : ℕ) (w o o′ : List ℕ) (at : ℕ) where
+  pub lay-refused : (r : Refusal) → firstPass d store (length w) ≡ refused r
+      → Lays (replacement d store (length w)) true o o at (Answer.Refused r) × AtMost (at + length d * (growth * growth)) (Answer.Refused r)
+  lay-refused r is = ((replacement-refused d store (length w) r is, λ e. refl, refl), tt)
 
-  pub measure-accepted : (w′ : List ℕ) (n : ℕ) (r : Answer) → Drafted d store w w′ n
-      → r ≡ answerOf (secondPass store (take n w′)) → AtMost (length (take n w′) * growth) r → Measures d store (length w) r
-  measure-accepted w′ n r q e l =
+  pub lay-accepted : (w′ : List ℕ) (n : ℕ) (r : Answer) → Drafted d store w w′ n
+      → Lays (secondPass store (take n w′)) true o o′ at r → AtMost (at + length (take n w′) * growth) r
+      → Lays (replacement d store (length w)) true o o′ at r × AtMost (at + length d * (growth * growth)) r
+  lay-accepted w′ n r q h l =
       let long = front-long d store w w′ n q in
       let most = q .most in
-      record {
-        answer = rw (q .front) at e ∙ sym (ap answerOf (replacement-is d store (length w) (q .text) (q .first)));
-        most = at-most _ _ r (omega arith) l;
-      }
+      (rw (replacement-is d store (length w) (q .text) (q .first)) (rw (q .front) at h), at-most _ _ r (omega arith) l)
 
 -- an accepted replacement has both passes accepted
 pub record Both (d : List ℕ) (store work : ℕ) (m : List ℕ) : Type 0 where

@@ -5,19 +5,19 @@ use mathlib.Core.Bool.{Bool, true, false}
 use mathlib.Core.List.{List}
 use Prim.Native.Nat.{ℕ, _+_, _*_, _^_, _≤_, _<_}
 use lib.Dec.{ltb}
-use lib.ListN.{length}
+use lib.ListN.{length, take}
 use Rattle.text.specs.Put.{put, Room, Puts}
 use Rattle.attribute.specs.declared.DisplayStyle.{DisplayStyle}
 use Rattle.error.specs.declared.Refusal.{Refusal}
 use Rattle.latex2mathml.specs.declared.Answer.{Answer}
 use Rattle.latex2mathml.specs.Outcome.{Outcome, accepted, refused, _>>=_, refuse}
-use Rattle.latex2mathml.specs.Replace.{threeDollars, places, odd, substitute, replacement}
-use Rattle.latex2mathml.specs.Written.{answerOf}
+use Rattle.latex2mathml.specs.Replace.{threeDollars, places, odd, substitute}
 use Rattle.latex2mathml.specs.Dollars.{mark, width}
 
--- the buffer that was o holds m at the place `at`, if m fits there; it is as it was where nothing is written
+-- the buffer that was o holds m at the place `at`, if m fits there, and what lies before the place is unchanged; where nothing is
+-- written all of it is
 abbrev pub Laid : Bool → List ℕ → List ℕ → ℕ → List ℕ → Type 0
-Laid true o o′ at m = at + length m ≤ length o → o′ ≡ put true o at m
+Laid true o o′ at m = (at + length m ≤ length o → o′ ≡ put true o at m) × (take at o′ ≡ take at o)
 Laid false o o′ at m = o′ ≡ o
 
 -- what is wanted is accepted and laid at the place, and r is the place behind it
@@ -27,10 +27,10 @@ pub record LaidThere (want : Outcome (List ℕ)) (write : Bool) (o o′ : List �
   pub place : r ≡ at + length text
   pub laid : Laid write o o′ at text
 
--- .. or it is refused, and the buffer is as it was where nothing is written
+-- .. or it is refused, and only what lies behind the place may have changed, nothing where nothing is written
 abbrev pub Lays : Outcome (List ℕ) → Bool → List ℕ → List ℕ → ℕ → Answer → Type 0
 Lays want write o o′ at (Answer.Accepted r) = LaidThere want write o o′ at r
-Lays want write o o′ at (Answer.Refused r) = (want ≡ refused r) × (write ≡ false → o′ ≡ o)
+Lays want write o o′ at (Answer.Refused r) = (want ≡ refused r) × (write ≡ false → o′ ≡ o) × (take at o′ ≡ take at o)
 
 -- there is room for what is wanted, if it is accepted; where it is sure to fit, in the buffer
 abbrev pub RoomFor : Outcome (List ℕ) → Bool → List ℕ → ℕ → Type 0
@@ -72,8 +72,3 @@ pub record Passable (store : ℕ) (display : DisplayStyle) (double : Bool) (s : 
 abbrev pub AtMost : ℕ → Answer → Type 0
 AtMost n (Answer.Accepted r) = r ≤ n
 AtMost n (Answer.Refused r) = Unit {0}
-
--- the replacement in a document is measured, and not too long for two passes to count
-pub record Measures (document : List ℕ) (store work : ℕ) (r : Answer) : Type 0 where
-  pub answer : r ≡ answerOf (replacement document store work)
-  pub most : AtMost (length document * (growth * growth)) r

@@ -16,11 +16,11 @@ ghost use Prim.Native.Nat.{_+_, _*_, _^_, _≤_, _<_};
 ghost use lib.ListN.{length};
 ghost use Rattle.latex2mathml.specs.Replace.{translateBody, firstPass, secondPass, replacement};
 ghost use Rattle.latex2mathml.specs.Dollars.{width};
-ghost use Rattle.latex2mathml.specs.Written.{answerOf, Gives, Replaces};
-ghost use Rattle.latex2mathml.specs.Laid.{Laid, Lays, RoomFor, Fits, WrittenThere, inRoom, passed, growth, Passable, AtMost, Measures};
+ghost use Rattle.latex2mathml.specs.Written.{Gives, Replaces};
+ghost use Rattle.latex2mathml.specs.Laid.{Laid, Lays, RoomFor, Fits, WrittenThere, inRoom, passed, growth, Passable, AtMost};
 
 // Lays a piece at a place, or counts it; the answer is the place behind it.
-fn lay(piece: &[u8], out: &mut [u8], at: usize, write: bool) -> usize
+pub fn lay(piece: &[u8], out: &mut [u8], at: usize, write: bool) -> usize
     requires { ⌜ at + length (now piece) < 2 ^ 64 ⌝ }
     ensures { λ r. ⌜ (r ≡ at + length (now (piece .entry))) × Laid write (now (out .entry)) (now (out .exit)) at (now (piece .entry)) ⌝ }
 {
@@ -165,23 +165,22 @@ fn first_pass(document: &[u8], store: &mut [u8], work: &mut [u8], write: bool) -
     }
 }
 
-// Pass two, measured.
-fn second_pass(text: &[u8], store: &mut [u8]) -> Answer
-    requires { ⌜ length (now text) * growth < 2 ^ 64 ⌝ }
-    ensures { λ r. ⌜ (r ≡ answerOf (secondPass (length (now (store .entry))) (now (text .entry)))) × AtMost (length (now (text .entry)) * growth) r ⌝ }
+// Pass two: its text goes to a place of the output if it is to be written and fits.
+fn second_pass(text: &[u8], store: &mut [u8], out: &mut [u8], at: usize, write: bool) -> Answer
+    requires { ⌜ at + length (now text) * growth < 2 ^ 64 ⌝ }
+    ensures { λ r. ⌜ Lays (secondPass (length (now (store .entry))) (now (text .entry))) write (now (out .entry)) (now (out .exit)) at r × AtMost (at + length (now (text .entry)) * growth) r ⌝ }
 {
     if odd_marks(text, false) {
         return Answer::Refused(Refusal::InvalidNumberOfDollarSigns);
     }
-    let mut none = [0u8; 1];
     substitute(
         text,
         false,
         DisplayStyle::Inline,
         store,
-        &mut none,
-        0,
-        false,
+        out,
+        at,
+        write,
         false,
     )
 }
@@ -191,7 +190,7 @@ fn finish(text: &[u8], store: &mut [u8], out: &mut [u8]) -> Answer
     requires { ⌜ length (now text) * growth < 2 ^ 64 ⌝ }
     ensures { λ r. ⌜ Gives (inRoom (length (now (out .entry))) (secondPass (length (now (store .entry))) (now (text .entry)))) r (now (out .entry)) (now (out .exit)) ⌝ }
 {
-    match second_pass(text, store) {
+    match second_pass(text, store, out, 0, false) {
         Answer::Refused(r) => Answer::Refused(r),
         Answer::Accepted(n) => {
             if out.len() < n {
@@ -216,13 +215,20 @@ pub fn replace(document: &[u8], store: &mut [u8], work: &mut [u8], out: &mut [u8
     }
 }
 
-// The length of the replacement in a document, with an output long enough; the work buffer is left with any bytes.
-pub fn measure(document: &[u8], store: &mut [u8], work: &mut [u8]) -> Answer
-    ensures { λ r. ⌜ Measures (now (document .entry)) (length (now (store .entry))) (length (now (work .entry))) r ⌝ }
+// Lays the replacement in a document at a place, as for an output long enough; the work buffer is left with any bytes.
+pub fn lay_replacement(
+    document: &[u8],
+    store: &mut [u8],
+    work: &mut [u8],
+    out: &mut [u8],
+    at: usize,
+) -> Answer
+    requires { ⌜ at + length (now document) * (growth * growth) < 2 ^ 63 ⌝ }
+    ensures { λ r. ⌜ Lays (replacement (now (document .entry)) (length (now (store .entry))) (length (now (work .entry)))) true (now (out .entry)) (now (out .exit)) at r × AtMost (at + length (now (document .entry)) * (growth * growth)) r ⌝ }
 {
     match first_pass(document, store, work, true) {
         Answer::Refused(r) => Answer::Refused(r),
-        Answer::Accepted(n) => second_pass(&work[..n], store),
+        Answer::Accepted(n) => second_pass(&work[..n], store, out, at, true),
     }
 }
 

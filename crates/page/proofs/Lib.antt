@@ -1,6 +1,6 @@
 pub mod BreakLaws
 pub mod PieceLaws
 pub mod ParagraphLaws
-pub mod MeasureLaws
+pub mod DraftLaws
 pub mod WriteLaws
 pub mod PageLaws

@@ -1,13 +1,14 @@
 -- The page operation's answer, by what was measured.
 -- Assumes nothing.
-use mathlib.Core.Path.{_≡_}
+use mathlib.Core.Path.{_≡_, sym}
 use mathlib.Core.Bool.{true}
 use mathlib.Core.List.{List}
-use Prim.Native.Nat.{ℕ, _≤_, _<_}
+use Prim.Native.Nat.{ℕ, _^_, _≤_, _<_}
 use native.Mathlib.Omega.{arith}
-use lib.ListN.{length}
+use lib.ListN.{length, take}
+use lib.Seq.{length-take-le}
 use borrow.Author.Tests.{lt-ltb, le-ltb}
-use Rattle.text.specs.Put.{Puts}
+use Rattle.text.specs.Put.{Room, Puts}
 use Rattle.text.proofs.PutLaws.{puts-all}
 use Rattle.error.specs.declared.Refusal.{Refusal}
 use Rattle.latex2mathml.specs.Outcome.{accepted, refused, _>>=_, refuse, documentLimit}
@@ -30,7 +31,7 @@ module _ (document : List ℕ) (store work : ℕ) (o : List ℕ) where
   unfolding page documentLimit _>>=_ refuse
   pages-long h = pages-refused document store work Refusal.TooLong o (rw (page, lt-ltb 32768 (length document) h))
 
-  module _ {m : List ℕ} {t : Totals} (few : length document ≤ 32768) (h : Totalled document store work m t) where
+  module _ {d m : List ℕ} {t : Totals} (few : length document ≤ 32768) (h : Totalled document store work d m t) where
     pub pages-full : length o < t .length → Pages document store work (PageAnswer.Refused Refusal.OutputTooSmall) o o
     unfolding page documentLimit _>>=_ refuse
     pages-full full =
@@ -55,3 +56,16 @@ module _ (document : List ℕ) (store work : ℕ) (o : List ℕ) where
       answer = rw (accepts room, h .long, h .counted, h .kept);
       output = rw (accepts room) (puts-all puts);
     }
+
+    -- a page that fits into the draft is its front
+    module _ (small : length o < 2 ^ 64) (room : t .length ≤ length o) (fits : t .length ≤ length d) where
+      pub copy-long : t .length ≡ length (take (t .length) d)
+      copy-long = sym (length-take-le (t .length) d fits)
+
+      pub copy-room : Room true o 0 (length (take (t .length) d))
+      copy-room =
+          let e = copy-long in
+          record { small = omega arith; inside = λ z. omega arith }
+
+      pub pages-copied : (o′ : List ℕ) {r : ℕ} → Puts true o o′ 0 (take (t .length) d) r → Pages document store work (PageAnswer.Accepted (t .length) (t .paragraphs) (t .left)) o o′
+      pages-copied o′ puts = pages-written room (rw (h .front fits) at puts)

@@ -1,26 +1,32 @@
 -- A paragraph as it comes out, by what the replacement gives for it.
 -- Assumes nothing.
-use mathlib.Core.Path.{_≡_, refl}
+use mathlib.Core.Path.{_≡_, refl, sym, _∙_}
 use mathlib.Core.Bool.{true}
-use mathlib.Core.List.{List}
-use Prim.Native.Nat.{ℕ, _≤_}
+use mathlib.Core.List.{List, _++_}
+use Prim.Native.Nat.{ℕ, _+_, _*_, _≤_}
 use native.Mathlib.Omega.{arith}
-use lib.ListN.{length, set}
-use Rattle.text.specs.Put.{Room, Puts}
+use lib.ListN.{length, take, drop, set, length-append}
+use lib.Seq.{take-at, length-take-le}
+use Rattle.text.specs.Put.{put, Room, Puts}
 use Rattle.text.proofs.Cases.{never}
 use Rattle.error.specs.declared.Refusal.{Refusal}
 use Rattle.latex2mathml.specs.declared.Answer.{Answer}
 use Rattle.latex2mathml.specs.Outcome.{Outcome, accepted, refused}
 use Rattle.latex2mathml.specs.Replace.{replacement}
-use Rattle.latex2mathml.specs.Written.{answerOf}
-use Rattle.latex2mathml.specs.Laid.{Measures, Fits, WrittenThere}
+use Rattle.latex2mathml.specs.Laid.{Laid, Lays, Fits, WrittenThere, growth, AtMost}
 use Rattle.page.specs.Page.{shown, left}
-use Rattle.page.specs.Marks.{Measured}
+use Rattle.page.specs.Marks.{Drafted}
 
 -- what the replacement gives, with its outcome as an equation
 by-outcome : {P : Type 0} (w : Outcome (List ℕ)) → ((text : List ℕ) → w ≡ accepted text → P) → ((r : Refusal) → w ≡ refused r → P) → P
 by-outcome (accepted text) f g = f text refl
 by-outcome (refused r) f g = g r refl
+
+-- what is laid stands behind what lies before its place
+pub laid-next : (d d′ bs : List ℕ) (at n : ℕ) → n ≡ at + length bs → n ≤ length d → Laid true d d′ at bs → take n d′ ≡ take at d ++ bs
+unfolding put
+laid-next d d′ bs at n place fits laid =
+    rw (laid .0 (omega arith)) (take-at (take at d ++ bs) (drop (at + length bs) d) n (length-append (take at d) bs ∙ rw (length-take-le at d (omega arith)) (sym place)))
 
 module _ (p : List ℕ) (store work : ℕ) where
   -- the paragraph is replaced, or left as typed
@@ -44,23 +50,30 @@ module _ (p : List ℕ) (store work : ℕ) where
   left-most =
       by-outcome (replacement p store work) (λ text e. omega (arith, left-replaced text e)) (λ r e. omega (arith, left-typed r e))
 
-  -- what is measured of it
-  pub measured-replaced : (m : List ℕ) (k n : ℕ) → Measures p store work (Answer.Accepted n) → Measured p store work m (set m k 0) k n
-  unfolding answerOf
-  measured-replaced m k n h =
-      by-outcome (replacement p store work)
-      (λ text e.
-      let same = rw e at (h .answer) in
-      let long : n ≡ length text = cc in
-      record { long = rw (shown-replaced text e) long; mark = rw (left-replaced text e); most = h .most })
-      (λ r e. let same = rw e at (h .answer) in never cc)
+  -- what is drafted of it
+  module _ (d d′ m : List ℕ) (at k : ℕ) where
+    pub drafted-replaced : (n : ℕ) → Lays (replacement p store work) true d d′ at (Answer.Accepted n) → AtMost (at + length p * (growth * growth)) (Answer.Accepted n)
+        → Drafted p store work d d′ at m (set m k 0) k n
+    drafted-replaced n h most =
+        let e = shown-replaced (h .text) (h .is) in
+        let place = h .place in
+        record {
+          place = rw e (h .place);
+          most = most;
+          front = λ fits. rw e (laid-next d d′ (h .text) at n (h .place) fits (h .laid));
+          mark = rw (left-replaced (h .text) (h .is));
+        }
 
-  pub measured-typed : (m : List ℕ) (k : ℕ) (r : Refusal) → Measures p store work (Answer.Refused r) → Measured p store work m (set m k 1) k (length p)
-  unfolding answerOf
-  measured-typed m k r h =
-      by-outcome (replacement p store work)
-      (λ text e. let same = rw e at (h .answer) in never cc)
-      (λ r′ e. record { long = rw (shown-typed r′ e); mark = rw (left-typed r′ e); most = omega arith })
+    pub drafted-typed : (d₁ : List ℕ) (r : Refusal) (n : ℕ) → Lays (replacement p store work) true d d₁ at (Answer.Refused r) → length d₁ ≡ length d
+        → n ≡ at + length p → Laid true d₁ d′ at p → Drafted p store work d d′ at m (set m k 1) k n
+    drafted-typed d₁ r n h same place laid =
+        let e = shown-typed r (h .0) in
+        record {
+          place = rw e place;
+          most = omega arith;
+          front = λ fits. rw (e, ← h .2) (laid-next d₁ d′ p at n place (omega arith) laid);
+          mark = rw (left-typed r (h .0));
+        }
 
   -- what is written of it
   pub fits-replaced : (o : List ℕ) (at : ℕ) → left store work p ≡ 0 → Room true o at (length (shown store work p)) → Fits (replacement p store work) o at

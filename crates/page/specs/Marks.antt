@@ -1,8 +1,8 @@
--- What is measured of a page before it is written: how long it comes out, and which of its paragraphs are left as typed.
+-- What is known of a page before it is written: how it comes out, and which of its paragraphs are left as typed.
 -- Assumes nothing.
 use mathlib.Core.Path.{_≡_}
-use mathlib.Core.List.{List, [], _∷_}
-use Prim.Native.Nat.{ℕ, _*_, _≤_}
+use mathlib.Core.List.{List, [], _∷_, _++_}
+use Prim.Native.Nat.{ℕ, _+_, _*_, _≤_}
 use lib.ListN.{length, take, set}
 use Rattle.latex2mathml.specs.Laid.{growth}
 use Rattle.page.specs.declared.Totals.{Totals}
@@ -18,15 +18,18 @@ marks store work (piece paragraph break rest) = left store work paragraph ∷ ma
 abbrev pub Marked : List ℕ → ℕ → ℕ → List ℕ → Type 0
 Marked document store work m = take (paragraphs (pieces document)) m ≡ marks store work (pieces document)
 
--- the paragraph p comes out r bytes long, not too many to be counted, and its mark is put at k of m, which gives m′
-pub record Measured (p : List ℕ) (store work : ℕ) (m m′ : List ℕ) (k r : ℕ) : Type 0 where
-  pub long : r ≡ length (shown store work p)
-  pub most : r ≤ length p * (growth * growth)
+-- the paragraph p is laid at the place `at` of the draft d as it comes out, which gives d′, and r, which is not too large to be counted, is the
+-- place behind it; its mark is put at k of m, which gives m′
+pub record Drafted (p : List ℕ) (store work : ℕ) (d d′ : List ℕ) (at : ℕ) (m m′ : List ℕ) (k r : ℕ) : Type 0 where
+  pub place : r ≡ at + length (shown store work p)
+  pub most : r ≤ at + length p * (growth * growth)
+  pub front : r ≤ length d → take r d′ ≡ take at d ++ shown store work p
   pub mark : m′ ≡ set m k (left store work p)
 
--- r are the totals of a document, and m has its marks
-pub record Totalled (document : List ℕ) (store work : ℕ) (m : List ℕ) (r : Totals) : Type 0 where
+-- r are the totals of a document, whose page is the front of the draft d if it fits there, and m has its marks
+pub record Totalled (document : List ℕ) (store work : ℕ) (d m : List ℕ) (r : Totals) : Type 0 where
   pub long : r .length ≡ length (shownAll store work (pieces document))
+  pub front : r .length ≤ length d → take (r .length) d ≡ shownAll store work (pieces document)
   pub counted : r .paragraphs ≡ paragraphs (pieces document)
   pub kept : r .left ≡ leftAll store work (pieces document)
   pub marked : Marked document store work m

@@ -1,11 +1,13 @@
 // The page operation: each paragraph of a document is replaced, or stands as typed where the replacement refuses it.
 mod breaks;
-mod measure;
+mod draft;
 mod write;
 
-use crate::measure::measure_page;
+use crate::draft::draft_page;
 use crate::write::write_page;
 use error::Refusal;
+use text::put::put;
+ghost use Prim.Native.Nat.{_≤_};
 ghost use lib.ListN.{length};
 ghost use Rattle.page.specs.Run.{Pages};
 
@@ -15,25 +17,46 @@ pub enum PageAnswer {
     Refused(Refusal),
 }
 
-// What measuring a page gives: the length of the output, the number of paragraphs and of those left as typed.
+// What drafting a page gives: the length of the output, the number of paragraphs and of those left as typed.
 pub struct Totals {
     pub length: usize,
     pub paragraphs: usize,
     pub left: usize,
 }
 
-// The page operation: measured, then written; a document of 32,768 bytes has at most 16,385 paragraphs.
+// The page operation in lent arrays: a page that fits into the draft is copied from there, and only a longer one is parsed again.
+fn page_in(
+    document: &[u8],
+    store: &mut [u8],
+    work: &mut [u8],
+    out: &mut [u8],
+    draft: &mut [u8],
+    left: &mut [u8],
+) -> PageAnswer
+    requires { ⌜ (length (now document) ≤ 32768) × (16385 ≤ length (now left)) ⌝ }
+    ensures { λ r. ⌜ Pages (now (document .entry)) (length (now (store .entry))) (length (now (work .entry))) r (now (out .entry)) (now (out .exit)) ⌝ }
+{
+    let totals = draft_page(document, store, work, draft, left);
+    let n = totals.length;
+    if out.len() < n {
+        return PageAnswer::Refused(Refusal::OutputTooSmall);
+    }
+    if n <= draft.len() {
+        put(&draft[..n], out, 0, true);
+        return PageAnswer::Accepted(n, totals.paragraphs, totals.left);
+    }
+    write_page(document, store, work, out, left);
+    PageAnswer::Accepted(n, totals.paragraphs, totals.left)
+}
+
+// The page operation; a document of 32,768 bytes has at most 16,385 paragraphs.
 pub fn page(document: &[u8], store: &mut [u8], work: &mut [u8], out: &mut [u8]) -> PageAnswer
     ensures { λ r. ⌜ Pages (now (document .entry)) (length (now (store .entry))) (length (now (work .entry))) r (now (out .entry)) (now (out .exit)) ⌝ }
 {
     if 32768 < document.len() {
         return PageAnswer::Refused(Refusal::TooLong);
     }
+    let mut draft = [0u8; 65536];
     let mut left = [0u8; 16385];
-    let totals = measure_page(document, store, work, &mut left);
-    if out.len() < totals.length {
-        return PageAnswer::Refused(Refusal::OutputTooSmall);
-    }
-    write_page(document, store, work, out, &left);
-    PageAnswer::Accepted(totals.length, totals.paragraphs, totals.left)
+    page_in(document, store, work, out, &mut draft, &mut left)
 }

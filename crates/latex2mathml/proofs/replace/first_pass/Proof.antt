@@ -16,28 +16,28 @@ use Rattle.text.proofs.well_formed.Reads as well-formed-reads
 
 returns : tie.Need-returns
 returns c =
-    ((first-long ((c .before .before .before .before .args) .document .now) (length ((c .before .before .before .before .args) .store .now)) (length ((c .before .before .before .before .args) .work .now)) ((c .if1) .taken), λ e. refl), tt)
+    ((first-long ((c .before .before .before .before .args) .document .now) (length ((c .before .before .before .before .args) .store .now)) (length ((c .before .before .before .before .args) .work .now)) ((c .if1) .taken), λ e. refl, refl), tt)
 
 well-formed-requires : tie.Need-well-formed-requires
 well-formed-requires c κs = search needs
 
 returns-2 : tie.Need-returns-2
 returns-2 c =
-    ((first-ill-formed ((c .before .before .before .before .before .before .args) .document .now) (length ((c .before .before .before .before .before .before .args) .store .now)) (length ((c .before .before .before .before .before .before .args) .work .now)) ((c .before .before .if1) .left) (sym ((c .before .well-formed) .ensures) ∙ not-true _ ((c .if2) .taken)), λ e. refl), tt)
+    ((first-ill-formed ((c .before .before .before .before .before .before .args) .document .now) (length ((c .before .before .before .before .before .before .args) .store .now)) (length ((c .before .before .before .before .before .before .args) .work .now)) ((c .before .before .if1) .left) (sym ((c .before .well-formed) .ensures) ∙ not-true _ ((c .if2) .taken)), λ e. refl, refl), tt)
 
 odd-marks-requires : tie.Need-odd-marks-requires
 odd-marks-requires c κs = search needs
 
 returns-3 : tie.Need-returns-3
 returns-3 c =
-    ((first-odd ((c .before .before .before .before .before .before .before .before .args) .document .now) (length ((c .before .before .before .before .before .before .before .before .args) .store .now)) (length ((c .before .before .before .before .before .before .before .before .args) .work .now)) ((c .before .before .before .before .if1) .left) (sym ((c .before .before .before .well-formed) .ensures) ∙ not-false _ ((c .before .before .if2) .left)) (sym ((c .before .odd-marks) .ensures) ∙ (c .if3) .taken), λ e. refl), tt)
+    ((first-odd ((c .before .before .before .before .before .before .before .before .args) .document .now) (length ((c .before .before .before .before .before .before .before .before .args) .store .now)) (length ((c .before .before .before .before .before .before .before .before .args) .work .now)) ((c .before .before .before .before .if1) .left) (sym ((c .before .before .before .well-formed) .ensures) ∙ not-false _ ((c .before .before .if2) .left)) (sym ((c .before .odd-marks) .ensures) ∙ (c .if3) .taken), λ e. refl, refl), tt)
 
 three-dollars-requires : tie.Need-three-dollars-requires
 three-dollars-requires c κs = search needs
 
 returns-4 : tie.Need-returns-4
 returns-4 c =
-    ((first-three ((c .before .before .before .before .before .before .before .before .before .before .args) .document .now) (length ((c .before .before .before .before .before .before .before .before .before .before .args) .store .now)) (length ((c .before .before .before .before .before .before .before .before .before .before .args) .work .now)) ((c .before .before .before .before .before .before .if1) .left) (sym ((c .before .before .before .before .before .well-formed) .ensures) ∙ not-false _ ((c .before .before .before .before .if2) .left)) (sym ((c .before .before .before .odd-marks) .ensures) ∙ (c .before .before .if3) .left) (sym ((c .before .three-dollars) .ensures) ∙ (c .if4) .taken), λ e. refl), tt)
+    ((first-three ((c .before .before .before .before .before .before .before .before .before .before .args) .document .now) (length ((c .before .before .before .before .before .before .before .before .before .before .args) .store .now)) (length ((c .before .before .before .before .before .before .before .before .before .before .args) .work .now)) ((c .before .before .before .before .before .before .if1) .left) (sym ((c .before .before .before .before .before .well-formed) .ensures) ∙ not-false _ ((c .before .before .before .before .if2) .left)) (sym ((c .before .before .before .odd-marks) .ensures) ∙ (c .before .before .if3) .left) (sym ((c .before .three-dollars) .ensures) ∙ (c .if4) .taken), λ e. refl, refl), tt)
 
 substitute-requires : tie.Need-substitute-requires
 substitute-requires c κs =

@@ -28,7 +28,8 @@ same-length c = search needs
 
 returns-2 : tie.Need-returns-2
 returns-2 c =
-    ((c .before .before .put) .ensures .place, laid-puts ((c .before .before .before .before .before .before .before .args) .write) ((c .before .before .put) .ensures))
+    let room = (c .before .before .before .before .if1) .left in
+    ((c .before .before .put) .ensures .place, laid-puts ((c .before .before .before .before .before .before .before .args) .write) (λ e. omega arith) ((c .before .before .put) .ensures))
 
 pub lay-spec : {M : Type 1} → statement M
 lay-spec = tie.close (tie.spec add-end returns put-requires same-length returns-2)

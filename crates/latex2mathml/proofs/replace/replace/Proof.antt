@@ -42,7 +42,8 @@ finish-requires : tie.Need-finish-requires
 finish-requires c κs =
     let q = rw ((c .before .before .before .before .before .before .before .before .before .before .before .n) .given .1) at ((c .before .before .before .before .before .before .before .before .before .before .before .before .before .before .before .before .before .first-pass) .ensures) in
     let dr = replace-drafted ((c .before .before .before .before .before .before .before .before .before .before .before .before .before .before .before .before .before .before .before .before .before .before .before .before .args) .document .now) (length ((c .before .before .before .before .before .before .before .before .before .before .before .before .before .before .before .before .before .before .before .before .before .before .before .before .args) .store .now)) ((c .before .before .before .before .before .before .before .before .before .before .before .before .before .before .before .before .before .before .before .before .before .before .before .before .args) .work .now) ((c .before .before .before .before .before .before .before .before .before .before .before .before .before .before .before .before .before .first-pass) .last .1 .1 .0) ((c .before .before .before .before .before .before .before .before .before .before .before .n) .given .0 .0) (q .0) (q .1) ((c .before .before .before .before .before .before .before .write-pass) .last .1 .1 .1 .1 .0) ((c .before .before .before .before .before .before .before .write-pass) .kept .1 .1 .1 .1 .0) (rw ((c .before .before .before .before .before .before .before .before .before .before .before .before .before .before .before .before .before .first-pass) .kept .1 .0) at ((c .before .before .before .before .before .before .before .write-pass) .ensures .0)) in
-    front-small ((c .before .before .before .before .before .before .before .before .before .before .before .before .before .before .before .before .before .before .before .before .before .before .before .before .args) .document .now) (length ((c .before .before .before .before .before .before .before .before .before .before .before .before .before .before .before .before .before .before .before .before .before .before .before .before .args) .store .now)) ((c .before .before .before .before .before .before .before .before .before .before .before .before .before .before .before .before .before .before .before .before .before .before .before .before .args) .work .now) _ _ dr
+    let small = front-small ((c .before .before .before .before .before .before .before .before .before .before .before .before .before .before .before .before .before .before .before .before .before .before .before .before .args) .document .now) (length ((c .before .before .before .before .before .before .before .before .before .before .before .before .before .before .before .before .before .before .before .before .before .before .before .before .args) .store .now)) ((c .before .before .before .before .before .before .before .before .before .before .before .before .before .before .before .before .before .before .before .before .before .before .before .before .args) .work .now) _ _ dr in
+    omega arith
 
 same-length : tie.Need-same-length
 same-length c = search needs

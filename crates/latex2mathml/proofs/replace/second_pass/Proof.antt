@@ -1,10 +1,7 @@
 -- `latex2mathml::replace::second_pass` meets its contract.
-use mathlib.Core.Path.{refl, sym, _∙_, ap}
-use Prim.Native.Nat.{_*_}
+use mathlib.Core.Path.{refl, sym, _∙_}
 use lib.ListN.{length}
-use Rattle.latex2mathml.specs.Laid.{growth}
-use Rattle.latex2mathml.specs.Written.{answerOf}
-use Rattle.latex2mathml.proofs.ReplaceLaws.{second-odd, second-is, second-able, lays-answer, at-most}
+use Rattle.latex2mathml.proofs.ReplaceLaws.{second-odd, second-is, second-able}
 use borrow.Author.Needs.{needs}
 use native.Mathlib.Omega.{arith}
 use Rattle.latex2mathml.proofs.replace.second_pass.Statement.{statement}
@@ -18,31 +15,24 @@ odd-marks-requires : tie.Need-odd-marks-requires
 odd-marks-requires c κs = search needs
 
 returns : tie.Need-returns
-unfolding answerOf
 returns c =
-    (sym (ap answerOf (second-odd (length ((c .before .before .before .before .args) .store .now)) ((c .before .before .before .before .args) .text .now) (sym ((c .before .odd-marks) .ensures) ∙ (c .if1) .taken))), tt)
-
-slice-aggregate-substitute : tie.Need-slice-aggregate-substitute
-slice-aggregate-substitute c = search needs
+    ((second-odd (length ((c .before .before .before .before .before .args) .store .now)) ((c .before .before .before .before .before .args) .text .now) (sym ((c .before .odd-marks) .ensures) ∙ (c .if1) .taken), λ e. refl, refl), tt)
 
 substitute-requires : tie.Need-substitute-requires
 substitute-requires c κs =
-    second-able (length ((c .before .before .before .before .before .before .args) .store .now)) ((c .before .before .before .before .before .before .args) .text .now) _ (c .before .before .before .before .before .before .pre) (sym ((c .before .before .before .odd-marks) .ensures) ∙ (c .before .before .if1) .left)
+    second-able (length ((c .before .before .before .before .before .before .before .args) .store .now)) ((c .before .before .before .before .before .before .before .args) .text .now) _ _ (c .before .before .before .before .before .before .before .pre) (sym ((c .before .before .before .odd-marks) .ensures) ∙ (c .before .before .if1) .left)
 
 same-length : tie.Need-same-length
 same-length c = search needs
 
+same-length-2 : tie.Need-same-length-2
+same-length-2 c = search needs
+
 returns-2 : tie.Need-returns-2
 returns-2 c =
-    (rw (second-is (length ((c .before .before .before .before .before .before .before .before .before .before .args) .store .now)) ((c .before .before .before .before .before .before .before .before .before .before .args) .text .now) (sym ((c .before .before .before .before .before .before .before .odd-marks) .ensures) ∙ (c .before .before .before .before .before .before .if1) .left)) (lays-answer _ _ _ _ ((c .before .before .before .substitute) .result) ((c .before .before .before .substitute) .ensures .0)), at-most _ _ ((c .before .before .before .substitute) .result) (omega arith) ((c .before .before .before .substitute) .ensures .1))
+    (rw (second-is (length ((c .before .before .before .before .before .before .before .before .before .before .before .before .args) .store .now)) ((c .before .before .before .before .before .before .before .before .before .before .before .before .args) .text .now) (sym ((c .before .before .before .before .before .before .before .before .odd-marks) .ensures) ∙ (c .before .before .before .before .before .before .before .if1) .left)) ((c .before .before .before .before .substitute) .ensures .0), (c .before .before .before .before .substitute) .ensures .1)
 
 pub second-pass-spec : {M : Type 1} → statement M
 second-pass-spec =
     tie.close
-    (tie.spec
-    odd-marks-requires
-    returns
-    slice-aggregate-substitute
-    substitute-requires
-    same-length
-    returns-2)
+    (tie.spec odd-marks-requires returns substitute-requires same-length same-length-2 returns-2)

@@ -1,0 +1,76 @@
+// Drafting a page: how its paragraphs come out, laid one behind the other as far as there is room, and which of them stand as typed.
+use crate::Totals;
+use crate::breaks::break_end;
+use crate::breaks::next_break;
+use latex2mathml::Answer;
+use latex2mathml::replace::lay;
+use latex2mathml::replace::lay_replacement;
+ghost use mathlib.Core.Path.{_≡_};
+ghost use Prim.Native.Nat.{_+_, _*_, _^_, _≤_, _<_};
+ghost use lib.ListN.{length};
+ghost use Rattle.latex2mathml.specs.Laid.{growth};
+ghost use Rattle.page.specs.Marks.{Drafted, Totalled};
+
+// Lays a paragraph at a place as it comes out, and marks at k whether it is left as typed; the answer is the place behind it.
+fn draft_paragraph(
+    p: &[u8],
+    store: &mut [u8],
+    work: &mut [u8],
+    draft: &mut [u8],
+    at: usize,
+    left: &mut [u8],
+    k: usize,
+) -> usize
+    requires { ⌜ (k < length (now left)) × (at + length (now p) * (growth * growth) < 2 ^ 63) ⌝ }
+    ensures { λ r. ⌜ Drafted (now (p .entry)) (length (now (store .entry))) (length (now (work .entry))) (now (draft .entry)) (now (draft .exit)) at (now (left .entry)) (now (left .exit)) k r ⌝ }
+{
+    match lay_replacement(p, store, work, draft, at) {
+        Answer::Accepted(end) => {
+            left[k] = 0;
+            end
+        }
+        Answer::Refused(_) => {
+            left[k] = 1;
+            lay(p, draft, at, true)
+        }
+    }
+}
+
+// A byte as a number of the machine.
+fn wide(x: u8) -> usize
+    ensures { λ r. ⌜ (r ≡ x) × (r < 256) ⌝ }
+{
+    x as usize
+}
+
+// Drafts each paragraph in turn, with the breaks between them, and marks those that are left as typed.
+pub fn draft_page(
+    document: &[u8],
+    store: &mut [u8],
+    work: &mut [u8],
+    draft: &mut [u8],
+    left: &mut [u8],
+) -> Totals
+    requires { ⌜ (length (now document) ≤ 32768) × (16385 ≤ length (now left)) ⌝ }
+    ensures { λ r. ⌜ Totalled (now (document .entry)) (length (now (store .entry))) (length (now (work .entry))) (now (draft .exit)) (now (left .exit)) r ⌝ }
+{
+    let mut from: usize = 0;
+    let mut at: usize = 0;
+    let mut k: usize = 0;
+    let mut refused: usize = 0;
+    loop {
+        let e = next_break(document, from);
+        at = draft_paragraph(&document[from..e], store, work, draft, at, left, k);
+        refused += wide(left[k]);
+        k += 1;
+        if e == document.len() {
+            return Totals {
+                length: at,
+                paragraphs: k,
+                left: refused,
+            };
+        }
+        from = break_end(document, e);
+        at = lay(&document[e..from], draft, at, true);
+    }
+}
