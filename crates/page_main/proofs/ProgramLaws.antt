@@ -1,0 +1,103 @@
+-- What the program writes, piece by piece as the code puts it.
+-- Assumes nothing.
+use mathlib.Core.Path.{_≡_, refl, sym, _∙_, ap}
+use mathlib.Core.Bool.{true}
+use mathlib.Core.List.{List, [], _∷_}
+use Prim.Native.Nat.{ℕ, _+_, _/_, _%_, _≤_, _<_}
+use native.Mathlib.Omega.{arith}
+use lib.ListN.{length, take, drop, length-append, length-drop}
+use lib.Seq.{take-at, length-take-le}
+use borrow.Author.Tests.{lt-ltb, le-ltb}
+use Rattle.text.specs.Put.{Room, Puts}
+use Rattle.text.specs.Examples.{text-opens}
+use Rattle.text.proofs.Cases.{never, by-order}
+use Rattle.text.proofs.PutLaws.{puts-all}
+use Rattle.error.specs.declared.Refusal.{Refusal}
+use Rattle.error.specs.Numbers.{number}
+use Rattle.latex2mathml.specs.Outcome.{Outcome, accepted, refused}
+use Rattle.latex2mathml.specs.Written.{over}
+use Rattle.page.specs.declared.PageAnswer.{PageAnswer}
+use Rattle.page.specs.Page.{Paged, page, outputOf}
+use Rattle.page.specs.Run.{answerOf, Pages}
+use Rattle.page_main.specs.Program.{decimal, refusal, program, Answers}
+
+-- the code takes the last digit as a remainder also where it is the only one
+pub one-digit : (n : ℕ) → n < 10 → decimal n ≡ (48 + n % 10) ∷ []
+unfolding decimal
+one-digit n h =
+    let e : n ≡ n % 10 = omega arith in
+    rw (decimal, lt-ltb n 10 h) (ap (λ x. (48 + x) ∷ []) e)
+
+pub two-digits : (n : ℕ) → 10 ≤ n → decimal n ≡ (48 + n / 10) ∷ (48 + n % 10) ∷ []
+unfolding decimal
+two-digits n h = rw (decimal, le-ltb n 10 h)
+
+decimal-short : (n : ℕ) → length (decimal n) ≤ 2
+decimal-short n = by-order n 10 (λ h. rw (one-digit n h) (omega arith)) (λ h. rw (two-digits n h) (omega arith))
+
+-- the number of a refusal has at most two digits
+pub number-small : (r : Refusal) → number r < 100
+unfolding number
+number-small Refusal.TooLong = omega arith
+number-small Refusal.IllFormed = omega arith
+number-small Refusal.StoreTooSmall = omega arith
+number-small Refusal.InvalidNumberOfDollarSigns = omega arith
+number-small Refusal.ThreeDollarSigns = omega arith
+number-small Refusal.UnexpectedToken = omega arith
+number-small Refusal.MissingParensethis = omega arith
+number-small Refusal.UnknownEnvironment = omega arith
+number-small Refusal.MiddleOperand = omega arith
+number-small Refusal.TooDeep = omega arith
+number-small Refusal.WorkTooSmall = omega arith
+number-small Refusal.OutputTooSmall = omega arith
+
+refusal-short : (r : Refusal) → length (refusal r) ≤ 11
+unfolding refusal text-opens
+refusal-short r = let d = decimal-short (number r) in simp length-append (omega arith)
+
+-- the line of a refusal fits an output of the program's size
+pub refusal-room : (r : Refusal) {o : List ℕ} → 65536 ≡ length o → Room true o 0 (length (refusal r))
+refusal-room r long =
+    let h = refusal-short r in
+    record { small = omega arith; inside = λ _. omega arith }
+
+-- bytes that a buffer holds at its front without growing lie within it
+front : (l o : List ℕ) {o′ : List ℕ} → length o′ ≡ length o → o′ ≡ over l o → (length l ≤ length o′) × (take (length l) o′ ≡ l)
+unfolding over
+front l o {o′} kept e =
+    let n = ap length e in
+    let a = length-append l (drop (length l) o) in
+    let d = length-drop (length l) o in
+    (omega arith, rw e (take-at l (drop (length l) o) (length l) refl))
+
+-- the bytes at the front of the output are what the program writes
+fronted : (document l o : List ℕ) {n : ℕ} {o′ : List ℕ} → program document ≡ l → n ≡ length l → length o′ ≡ length o → o′ ≡ over l o → Answers document n o′
+fronted document l o {n} {o′} is long kept e =
+    let f = front l o kept e in
+    rw long (record { inside = f .0; size = sym (length-take-le (length l) o′ (f .0)); written = f .1 ∙ sym is })
+
+-- an answer that accepts tells the page
+accepted-page : (document o : List ℕ) (want : Outcome Paged) {n p q : ℕ} {o′ : List ℕ} → page document 61440 65536 65536 ≡ want
+    → PageAnswer.Accepted n p q ≡ answerOf want → length o′ ≡ length o → o′ ≡ over (outputOf want) o → Answers document n o′
+unfolding answerOf outputOf program
+accepted-page document o (accepted paged) is e kept f = fronted document (paged .output) o (rw (program, is)) (cc) kept f
+accepted-page document o (refused r) is e kept f = never cc
+
+-- an answer that refuses tells the line
+refused-page : (document : List ℕ) (want : Outcome Paged) {r : Refusal} → page document 61440 65536 65536 ≡ want
+    → PageAnswer.Refused r ≡ answerOf want → program document ≡ refusal r
+unfolding answerOf program
+refused-page document (accepted paged) is e = never cc
+refused-page document (refused q) is e = rw (program, is) cc
+
+-- the two ways through the program, over an output of its size that keeps its length
+module _ {document o o′ : List ℕ} (long : 65536 ≡ length o) (kept : length o′ ≡ length o) where
+  pub answer-accepts : {n p q : ℕ} → Pages document 61440 65536 (PageAnswer.Accepted n p q) o o′ → Answers document n o′
+  answer-accepts g = accepted-page document o (page document 61440 65536 (length o)) (rw long) (g .answer) kept (g .output)
+
+  pub answer-refuses : {r : Refusal} {n : ℕ} {o″ : List ℕ} → length o″ ≡ length o′ → Pages document 61440 65536 (PageAnswer.Refused r) o o′
+      → Puts true o′ o″ 0 (refusal r) n → Answers document n o″
+  unfolding over
+  answer-refuses {r} {n} same g p =
+      let e : program document ≡ refusal r = refused-page document (page document 61440 65536 (length o)) (rw long) (g .answer) in
+      fronted document (refusal r) o′ e (omega (arith, p .place)) same (puts-all p)

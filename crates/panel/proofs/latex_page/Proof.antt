@@ -1,0 +1,66 @@
+-- `panel::latex_page` meets its contract.
+-- Assumes nothing.
+use Rattle.panel.proofs.CallLaws.{page-accepts, page-refuses}
+use borrow.Author.Needs.{needs}
+use native.Mathlib.Omega.{arith}
+use Rattle.panel.proofs.latex_page.Statement.{statement}
+use Rattle.panel.proofs.latex_page.Tie as tie
+use Rattle.panel.proofs.latex_page.Reads as reads
+use Rattle.panel.proofs.latex_page.Lts as lts
+use Rattle.latex2mathml.proofs.number.Reads as number-reads
+use Rattle.page.proofs.page.Reads as page-reads
+
+page-requires : tie.Need-page-requires
+page-requires c κs = search needs
+
+enum-known-n : tie.Need-enum-known-n
+enum-known-n c = search needs
+
+enum-known-r : tie.Need-enum-known-r
+enum-known-r c = search needs
+
+number-requires : tie.Need-number-requires
+number-requires c κs = search needs
+
+same-length : tie.Need-same-length
+same-length c = search needs
+
+same-length-2 : tie.Need-same-length-2
+same-length-2 c = search needs
+
+same-length-3 : tie.Need-same-length-3
+same-length-3 c = search needs
+
+returns : tie.Need-returns
+returns c =
+    page-accepts (rw ((c .before .n) .given .1) at ((c .before .before .before .before .before .before .before .before .before .page) .ensures))
+
+same-length-4 : tie.Need-same-length-4
+same-length-4 c = search needs
+
+same-length-5 : tie.Need-same-length-5
+same-length-5 c = search needs
+
+same-length-6 : tie.Need-same-length-6
+same-length-6 c = search needs
+
+returns-2 : tie.Need-returns-2
+returns-2 c =
+    page-refuses ((c .number) .ensures) (rw ((c .before .before .r) .given .1) at ((c .before .before .before .before .before .before .before .before .before .before .page) .ensures))
+
+pub latex-page-spec : {M : Type 1} → statement M
+latex-page-spec =
+    tie.close
+    (tie.spec
+    page-requires
+    enum-known-n
+    enum-known-r
+    number-requires
+    same-length
+    same-length-2
+    same-length-3
+    returns
+    same-length-4
+    same-length-5
+    same-length-6
+    returns-2)
