@@ -18,10 +18,13 @@ use Rattle.attribute.specs.declared.DisplayStyle.{DisplayStyle}
 use Rattle.error.specs.declared.Refusal.{Refusal}
 use Rattle.latex2mathml.specs.declared.Answer.{Answer}
 use Rattle.latex2mathml.specs.Outcome.{Outcome, accepted, refused, _>>=_, refuse, bytesOf, documentLimit}
-use Rattle.latex2mathml.specs.Replace.{dollar, twoDollars, threeDollars, places, odd, firstPass, secondPass, replacement, replaceOutcome, replace}
+use Rattle.latex2mathml.specs.Replace.{dollar, twoDollars, threeDollars, places, odd, substitute, firstPass, secondPass, replacement, replaceOutcome, replace}
 use Rattle.latex2mathml.specs.Written.{answerOf, over, Gives, Replaces}
-use Rattle.latex2mathml.specs.Laid.{LaidThere, Lays, Fits, WrittenThere, inRoom, passed, growth, Passable, AtMost}
+use Rattle.latex2mathml.specs.Laid.{Laid, LaidThere, Lays, Fits, WrittenThere, inRoom, passed, growth, Passable, AtMost}
 use Rattle.latex2mathml.proofs.TranslateLaws.{gives-nothing, gives-markup}
+use Rattle.latex2mathml.specs.Dollars.{mark, nextPlace}
+use Rattle.latex2mathml.proofs.PlaceLaws.{places-none}
+use Rattle.latex2mathml.proofs.DollarLaws.{three-none}
 use Rattle.latex2mathml.proofs.LayLaws.{laid-kept, laid-front}
 
 -- ---- answers and outcomes
@@ -66,6 +69,32 @@ pub record Checked (d : List ℕ) : Type 0 where
   pub well : wellFormed d ≡ true
   pub even : odd (places twoDollars 0 d) ≡ false
   pub apart : ltb 0 (length (places threeDollars 0 d)) ≡ false
+
+-- a text without marks is its own pass
+module _ (store : ℕ) (display : DisplayStyle) (double : Bool) (s : List ℕ) (none : length s ≡ nextPlace (mark double) 0 (drop 0 s)) where
+  no-marks : places (mark double) 0 s ≡ []
+  no-marks = places-none (mark double) s 0 (length s) (omega arith) none refl
+
+  pub plain-even : odd (places (mark double) 0 s) ≡ false
+  unfolding odd
+  plain-even = rw no-marks
+
+  pub plain-passed : passed store display double s ≡ accepted s
+  unfolding substitute
+  plain-passed = rw (no-marks, substitute)
+
+  -- where it is laid
+  pub plain-laid : (write : Bool) (o o′ : List ℕ) (at r : ℕ) → r ≡ at + length s → Laid write o o′ at s → LaidThere (passed store display double s) write o o′ at r
+  plain-laid write o o′ at r place laid = record { text = s; is = plain-passed; place = place; laid = laid }
+
+-- no windows, and so no three dollars in a row
+pub plain-checked : (d : List ℕ) → length d ≤ 32768 → wellFormed d ≡ true → length d ≡ nextPlace twoDollars 0 (drop 0 d) → Checked d
+plain-checked d short well none = record {
+  short = short;
+  well = well;
+  even = plain-even 0 DisplayStyle.Block true d none;
+  apart = rw (three-none d 0 (length d) (omega arith) none (omega arith) (omega arith));
+}
 
 module _ (d : List ℕ) (store work : ℕ) where
   first-is : Checked d → firstPass d store work ≡ (passed store DisplayStyle.Block true d >>= (λ text. refuse (ltb work (length text)) Refusal.WorkTooSmall >>= (λ _. accepted text)))

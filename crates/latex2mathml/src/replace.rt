@@ -129,7 +129,7 @@ fn write_pass(
     }
 }
 
-// Pass one: its text goes to the work buffer if it is to be written and fits.
+// Pass one: its text goes to the work buffer if it is to be written and fits. A text without marks is looked through once.
 fn first_pass(document: &[u8], store: &mut [u8], work: &mut [u8], write: bool) -> Answer
     ensures { λ r. ⌜ Lays (firstPass (now (document .entry)) (length (now (store .entry))) (length (now (work .entry)))) write (now (work .entry)) (now (work .exit)) 0 r × AtMost (length (now (document .entry)) * growth) r ⌝ }
 {
@@ -138,6 +138,12 @@ fn first_pass(document: &[u8], store: &mut [u8], work: &mut [u8], write: bool) -
     }
     if !well_formed(document) {
         return Answer::Refused(Refusal::IllFormed);
+    }
+    if next_mark(document, 0, true) == document.len() {
+        if work.len() < document.len() {
+            return Answer::Refused(Refusal::WorkTooSmall);
+        }
+        return Answer::Accepted(lay(document, work, 0, write));
     }
     if odd_marks(document, true) {
         return Answer::Refused(Refusal::InvalidNumberOfDollarSigns);
@@ -170,6 +176,9 @@ fn second_pass(text: &[u8], store: &mut [u8], out: &mut [u8], at: usize, write: 
     requires { ⌜ at + length (now text) * growth < 2 ^ 64 ⌝ }
     ensures { λ r. ⌜ Lays (secondPass (length (now (store .entry))) (now (text .entry))) write (now (out .entry)) (now (out .exit)) at r × AtMost (at + length (now (text .entry)) * growth) r ⌝ }
 {
+    if next_mark(text, 0, false) == text.len() {
+        return Answer::Accepted(lay(text, out, at, write));
+    }
     if odd_marks(text, false) {
         return Answer::Refused(Refusal::InvalidNumberOfDollarSigns);
     }

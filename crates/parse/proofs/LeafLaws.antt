@@ -1,63 +1,109 @@
 -- Tokens that are a leaf by themselves.
 -- Assumes nothing.
-use mathlib.Core.Path.{_≡_, refl}
+use mathlib.Core.Path.{_≡_, refl, sym, _∙_}
+use mathlib.Core.Bool.{Bool, true, false, not, _&&_, _||_, false≢true}
 use mathlib.Core.List.{List, [], _∷_}
-use Prim.Native.Nat.{ℕ, _^_, _≤_, _<_}
+use Prim.Native.Nat.{ℕ, _-_, _^_, _≤_, _<_}
 use native.Mathlib.Omega.{arith}
-use types.Run.{OneOf, miss}
+use types.Run.{OneOf}
 use denote.Enum.Declared.{tagOf}
+use Rattle.text.proofs.Keys.{among, at-key}
 use Rattle.token.specs.declared.Token.{Token}
 use Rattle.token.specs.declared.Token.the-variants.{EOF, Begin, End, Ampersand, NewLine, Left, Right, Middle, Paren, LBrace, RBrace, Frac, Underscore, Circumflex, Binom, Overset, Underset, Overbrace, Underbrace, Sqrt, Integral, Lim, Space, Style, Big, Over, Under, Operator, BigOp, Letter, Number, Function, OperatorName, Slashed, Text, Command}
+use Rattle.token.specs.declared.Mark.{Mark}
 use Rattle.token.proofs.Token.{the-type}
 use Rattle.ast.specs.Shape.{Placed}
 use Rattle.ast.specs.Tree.{leaf}
 use Rattle.parser.specs.declared.Parser.{Parser}
-use Rattle.parser.specs.Parse.{Reads, build, parseBare}
+use Rattle.parser.specs.State.{peekIs}
+use Rattle.parser.specs.Parse.{Reads, _>>=_, build, parseBare, nodeStep, parseNode, parseSingleNode}
 use Rattle.parser.specs.Sound.{TokenInside}
-use Rattle.parser.specs.Marks.{leafOf}
+use Rattle.parser.specs.Marks.{leafOf, isDefined, isPutOn, standsAlone}
+use Rattle.parse.proofs.WayLaws.{node-more, single-more, bare-is, prime-none}
 
 -- the places, among the enum's variants, of the tokens that have no operand
 abbrev pub single-tokens : List ℕ
 single-tokens = 0 ∷ 2 ∷ 3 ∷ 4 ∷ 6 ∷ 8 ∷ 10 ∷ 12 ∷ 13 ∷ 22 ∷ 27 ∷ 29 ∷ 30 ∷ 31 ∷ 35 ∷ []
 
+-- at those places a token is its leaf, and the tokens whose leaf is defined are at them
+by-place : (node single : Reads) (s : List ℕ) (t : Token) (p : Parser)
+    → (elim (among single-tokens (tagOf the-type t)) [ true ↦ parseBare node single s t p | false ↦ build 1 (leaf (leafOf t)) p ] ≡ build 1 (leaf (leafOf t)) p)
+    × (elim (isDefined (leafOf t)) [ true ↦ among single-tokens (tagOf the-type t) | false ↦ true ] ≡ true)
+unfolding parseBare leafOf isDefined
+by-place node single s EOF p = (refl, refl)
+by-place node single s Begin p = (refl, refl)
+by-place node single s End p = (refl, refl)
+by-place node single s Ampersand p = (refl, refl)
+by-place node single s NewLine p = (refl, refl)
+by-place node single s Left p = (refl, refl)
+by-place node single s Right p = (refl, refl)
+by-place node single s Middle p = (refl, refl)
+by-place node single s (Paren t) p = (refl, refl)
+by-place node single s LBrace p = (refl, refl)
+by-place node single s RBrace p = (refl, refl)
+by-place node single s Frac p = (refl, refl)
+by-place node single s Underscore p = (refl, refl)
+by-place node single s Circumflex p = (refl, refl)
+by-place node single s (Binom b) p = (refl, refl)
+by-place node single s Overset p = (refl, refl)
+by-place node single s Underset p = (refl, refl)
+by-place node single s (Overbrace c) p = (refl, refl)
+by-place node single s (Underbrace c) p = (refl, refl)
+by-place node single s Sqrt p = (refl, refl)
+by-place node single s (Integral c) p = (refl, refl)
+by-place node single s (Lim t) p = (refl, refl)
+by-place node single s (Space w) p = (refl, refl)
+by-place node single s (Style v) p = (refl, refl)
+by-place node single s (Big t) p = (refl, refl)
+by-place node single s (Over c a) p = (refl, refl)
+by-place node single s (Under c a) p = (refl, refl)
+by-place node single s (Operator c) p = (refl, refl)
+by-place node single s (BigOp c) p = (refl, refl)
+by-place node single s (Letter c v) p = (refl, refl)
+by-place node single s (Number a e) p = (refl, refl)
+by-place node single s (Function t) p = (refl, refl)
+by-place node single s OperatorName p = (refl, refl)
+by-place node single s Slashed p = (refl, refl)
+by-place node single s Text p = (refl, refl)
+by-place node single s (Command a e) p = (refl, refl)
+
+-- a token at one of them is its leaf
 pub bare-leaf : (node single : Reads) (s : List ℕ) (t : Token) (p : Parser) → OneOf single-tokens (tagOf the-type t) → parseBare node single s t p ≡ build 1 (leaf (leafOf t)) p
-unfolding parseBare leafOf
-bare-leaf node single s EOF p h = refl
-bare-leaf node single s Begin p h = absurd (miss single-tokens 1 tt h)
-bare-leaf node single s End p h = refl
-bare-leaf node single s Ampersand p h = refl
-bare-leaf node single s NewLine p h = refl
-bare-leaf node single s Left p h = absurd (miss single-tokens 5 tt h)
-bare-leaf node single s Right p h = refl
-bare-leaf node single s Middle p h = absurd (miss single-tokens 7 tt h)
-bare-leaf node single s (Paren t) p h = refl
-bare-leaf node single s LBrace p h = absurd (miss single-tokens 9 tt h)
-bare-leaf node single s RBrace p h = refl
-bare-leaf node single s Frac p h = absurd (miss single-tokens 11 tt h)
-bare-leaf node single s Underscore p h = refl
-bare-leaf node single s Circumflex p h = refl
-bare-leaf node single s (Binom b) p h = absurd (miss single-tokens 14 tt h)
-bare-leaf node single s Overset p h = absurd (miss single-tokens 15 tt h)
-bare-leaf node single s Underset p h = absurd (miss single-tokens 16 tt h)
-bare-leaf node single s (Overbrace c) p h = absurd (miss single-tokens 17 tt h)
-bare-leaf node single s (Underbrace c) p h = absurd (miss single-tokens 18 tt h)
-bare-leaf node single s Sqrt p h = absurd (miss single-tokens 19 tt h)
-bare-leaf node single s (Integral c) p h = absurd (miss single-tokens 20 tt h)
-bare-leaf node single s (Lim t) p h = absurd (miss single-tokens 21 tt h)
-bare-leaf node single s (Space w) p h = refl
-bare-leaf node single s (Style v) p h = absurd (miss single-tokens 23 tt h)
-bare-leaf node single s (Big t) p h = absurd (miss single-tokens 24 tt h)
-bare-leaf node single s (Over c a) p h = absurd (miss single-tokens 25 tt h)
-bare-leaf node single s (Under c a) p h = absurd (miss single-tokens 26 tt h)
-bare-leaf node single s (Operator c) p h = refl
-bare-leaf node single s (BigOp c) p h = absurd (miss single-tokens 28 tt h)
-bare-leaf node single s (Letter c v) p h = refl
-bare-leaf node single s (Number a e) p h = refl
-bare-leaf node single s (Function t) p h = refl
-bare-leaf node single s OperatorName p h = absurd (miss single-tokens 32 tt h)
-bare-leaf node single s Slashed p h = absurd (miss single-tokens 33 tt h)
-bare-leaf node single s Text p h = absurd (miss single-tokens 34 tt h)
-bare-leaf node single s (Command a e) p h = refl
+bare-leaf node single s t p h =
+    rw (at-key (among single-tokens) true single-tokens (tagOf the-type t) refl h) at (by-place node single s t p .0)
+
+-- a token whose leaf is defined is that leaf
+bare-defined : (node single : Reads) (s : List ℕ) (t : Token) (p : Parser) → isDefined (leafOf t) ≡ true → parseBare node single s t p ≡ build 1 (leaf (leafOf t)) p
+bare-defined node single s t p h =
+    let l = by-place node single s t p in
+    rw (rw h at (l .1)) at (l .0)
+
+-- the first of two tests holds, and the second does not
+first-only : (a b : Bool) → (a && not b) ≡ true → (a ≡ true) × (b ≡ false)
+first-only true false e = (refl, refl)
+first-only true true e = absurd (false≢true e)
+first-only false b e = absurd (false≢true e)
+
+-- no test of three holds
+none-of : (a b c : Bool) → (a || b || c) ≡ false → (a ≡ false) × (b ≡ false) × (c ≡ false)
+none-of false false c e = (refl, refl, e)
+none-of false true c e = absurd (false≢true (sym e))
+none-of true b c e = absurd (false≢true (sym e))
+
+-- where the token behind is not put on a node, it is neither a prime nor the mark of a script
+unmarked : (p : Parser) → isPutOn (p .peek .token) ≡ false → (peekIs p Mark.Prime ≡ false) × (peekIs p Mark.Underscore ≡ false) × (peekIs p Mark.Circumflex ≡ false)
+unfolding isPutOn
+unmarked p e = none-of (peekIs p Mark.Prime) (peekIs p Mark.Underscore) (peekIs p Mark.Circumflex) e
+
+-- a token that stands alone is its leaf
+pub alone-is : (d : ℕ) (s : List ℕ) (p : Parser) → 2 ≤ d → standsAlone (p .cur .token) (p .peek .token) ≡ true → parseNode d s p ≡ build 1 (leaf (leafOf (p .cur .token))) p
+unfolding standsAlone nodeStep _>>=_ build
+alone-is d s p le e =
+    let h = first-only (isDefined (leafOf (p .cur .token))) (isPutOn (p .peek .token)) e in
+    let m = unmarked p (h .1) in
+    let bare = bare-is (λ q. parseNode (d - 1 - 1) s q) (λ q. parseSingleNode (d - 1 - 1) s q) s p (bare-defined _ _ s (p .cur .token) p (h .0)) in
+    let single = single-more (d - 1) s p (λ z. omega arith) ∙ bare ∙ prime-none s _ _ (m .0) in
+    node-more d s p le ∙ rw (nodeStep, single, _>>=_, m .1, m .2)
 
 -- the places that such a leaf carries fit four bytes
 pub leaf-placed : (n : ℕ) (t : Token) → n < 2 ^ 32 → TokenInside n t → Placed (leafOf t)

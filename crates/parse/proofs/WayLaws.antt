@@ -4,7 +4,7 @@ use mathlib.Core.Path.{_≡_, refl, sym, _∙_, ap}
 use mathlib.Core.Bool.{Bool, true, false}
 use mathlib.Core.List.{List}
 use mathlib.Core.Option.{Option, none, some}
-use Prim.Native.Nat.{ℕ, zero, suc, _-_, _≤_}
+use Prim.Native.Nat.{ℕ, zero, suc, _-_, _≤_, _<_}
 use lib.Dec.{lit≤}
 use native.Mathlib.Omega.{arith}
 use lib.ListN.{length}
@@ -295,20 +295,21 @@ module _ (single : Reads) (s : List ℕ) (kind : Limits) (p : Parser) where
 
 -- ---- the tower
 
-pub node-zero : (d : ℕ) (s : List ℕ) (p : Parser) → d ≡ 0 → parseNode d s p ≡ refused Refusal.TooDeep
-unfolding parseNode
-node-zero zero s p e = refl
-node-zero (suc d) s p e = absurd (omega arith)
-
 pub single-zero : (d : ℕ) (s : List ℕ) (p : Parser) → d ≡ 0 → parseSingleNode d s p ≡ refused Refusal.TooDeep
 unfolding parseSingleNode
 single-zero zero s p e = refl
 single-zero (suc d) s p e = absurd (omega arith)
 
-pub node-more : (d : ℕ) (s : List ℕ) (p : Parser) → (d ≡ 0 → ⊥) → parseNode d s p ≡ nodeStep (λ q. parseNode (d - 1) s q) (λ q. parseSingleNode (d - 1) s q) s p
+-- the call of the single node takes one more
+pub node-few : (d : ℕ) (s : List ℕ) (p : Parser) → d < 2 → parseNode d s p ≡ refused Refusal.TooDeep
 unfolding parseNode
-node-more zero s p e = absurd (e refl)
-node-more (suc d) s p e =
+node-few zero s p l = refl
+node-few (suc d) s p l = node-no (λ q. parseNode d s q) (λ q. parseSingleNode d s q) s p (single-zero d s p (omega arith))
+
+pub node-more : (d : ℕ) (s : List ℕ) (p : Parser) → 2 ≤ d → parseNode d s p ≡ nodeStep (λ q. parseNode (d - 1) s q) (λ q. parseSingleNode (d - 1) s q) s p
+unfolding parseNode
+node-more zero s p l = absurd (omega arith)
+node-more (suc d) s p l =
     let less : d ≡ suc d - 1 = omega arith in
     ap (λ x. nodeStep (λ q. parseNode x s q) (λ q. parseSingleNode x s q) s p) less
 

@@ -35,6 +35,7 @@ use parser::marks::leaf_of;
 use parser::marks::other_limit;
 use parser::marks::script_kind;
 use parser::marks::script_of;
+use parser::marks::stands_alone;
 use token::Mark;
 use token::Token;
 ghost use mathlib.Core.Path.{_≡_};
@@ -52,13 +53,20 @@ pub enum ParsedNodes {
     Refused(Refusal),
 }
 
-// A node with the scripts behind it.
+// A node with the scripts behind it, which takes two calls; a token that stands alone is made a leaf without the second.
 pub fn parse_node(s: &[u8], store: &mut [u8], p: Parser, depth: usize) -> ParsedNode
     requires { ⌜ Ready (now s) (now store) p ⌝ }
     ensures { λ r. ⌜ Builds (now (store .entry)) (now (store .exit)) (p .made) p (parseNode depth (now (s .entry)) p) r ⌝ }
 {
-    if depth == 0 {
+    if depth < 2 {
         return ParsedNode::Refused(Refusal::TooDeep);
+    }
+    let cur = p.cur;
+    let token = cur.token;
+    let peek = p.peek;
+    let behind = peek.token;
+    if stands_alone(token, behind) {
+        return make_leaf(store, p, leaf_of(token));
     }
     match parse_single_node(s, store, p, depth - 1) {
         ParsedNode::Refused(r) => ParsedNode::Refused(r),

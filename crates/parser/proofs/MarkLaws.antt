@@ -18,9 +18,9 @@ use Rattle.token.specs.Roles.{markOf, parenOf, tokenIs, fenceOf}
 use Rattle.token.proofs.Token.{the-type}
 use Rattle.ast.specs.declared.Leaf.{Leaf}
 use Rattle.parser.specs.declared.Fence.{Fence}
-use Rattle.parser.specs.Marks.{fence, leafOf}
+use Rattle.parser.specs.Marks.{fence, leafOf, isDefined}
 
--- the places, among the enum's variants, of the tokens that have an arm of their own: in mark_of, in paren_of and in leaf_of
+-- the places, among the enum's variants, of the tokens that have an arm of their own: in mark_of, in paren_of, in leaf_of and in is_plain
 abbrev pub marked : List ℕ
 marked = 0 ∷ 2 ∷ 6 ∷ 10 ∷ 12 ∷ 13 ∷ 8 ∷ 27 ∷ []
 
@@ -29,6 +29,9 @@ parens = 8 ∷ []
 
 abbrev pub leaves : List ℕ
 leaves = 30 ∷ 29 ∷ 27 ∷ 31 ∷ 22 ∷ 8 ∷ 3 ∷ 4 ∷ 2 ∷ 6 ∷ 10 ∷ 12 ∷ 13 ∷ 35 ∷ []
+
+abbrev pub plains : List ℕ
+plains = 30 ∷ 29 ∷ 27 ∷ 31 ∷ 22 ∷ 8 ∷ 3 ∷ 4 ∷ []
 
 -- k places from n on, but for those
 abbrev pub without : List ℕ → ℕ → ℕ → List ℕ
@@ -45,43 +48,44 @@ Elsewhere ks t a x = elim (among ks (tagOf the-type t)) [ true ↦ x | false ↦
 
 elsewhere : (t : Token)
     → Elsewhere marked t (markOf t) Mark.Other × Elsewhere parens t (parenOf t) none × Elsewhere leaves t (leafOf t) (Leaf.Undefined Undefined.EOF)
-unfolding markOf parenOf leafOf
-elsewhere EOF = (refl, refl, refl)
-elsewhere Begin = (refl, refl, refl)
-elsewhere End = (refl, refl, refl)
-elsewhere Ampersand = (refl, refl, refl)
-elsewhere NewLine = (refl, refl, refl)
-elsewhere Left = (refl, refl, refl)
-elsewhere Right = (refl, refl, refl)
-elsewhere Middle = (refl, refl, refl)
-elsewhere (Paren x) = (refl, refl, refl)
-elsewhere LBrace = (refl, refl, refl)
-elsewhere RBrace = (refl, refl, refl)
-elsewhere Frac = (refl, refl, refl)
-elsewhere Underscore = (refl, refl, refl)
-elsewhere Circumflex = (refl, refl, refl)
-elsewhere (Binom x) = (refl, refl, refl)
-elsewhere Overset = (refl, refl, refl)
-elsewhere Underset = (refl, refl, refl)
-elsewhere (Overbrace x) = (refl, refl, refl)
-elsewhere (Underbrace x) = (refl, refl, refl)
-elsewhere Sqrt = (refl, refl, refl)
-elsewhere (Integral x) = (refl, refl, refl)
-elsewhere (Lim x) = (refl, refl, refl)
-elsewhere (Space x) = (refl, refl, refl)
-elsewhere (Style x) = (refl, refl, refl)
-elsewhere (Big x) = (refl, refl, refl)
-elsewhere (Over x y) = (refl, refl, refl)
-elsewhere (Under x y) = (refl, refl, refl)
-elsewhere (Operator x) = (refl, refl, refl)
-elsewhere (BigOp x) = (refl, refl, refl)
-elsewhere (Letter x y) = (refl, refl, refl)
-elsewhere (Number x y) = (refl, refl, refl)
-elsewhere (Function x) = (refl, refl, refl)
-elsewhere OperatorName = (refl, refl, refl)
-elsewhere Slashed = (refl, refl, refl)
-elsewhere Text = (refl, refl, refl)
-elsewhere (Command x y) = (refl, refl, refl)
+    × (isDefined (leafOf t) ≡ among plains (tagOf the-type t))
+unfolding markOf parenOf leafOf isDefined
+elsewhere EOF = (refl, refl, refl, refl)
+elsewhere Begin = (refl, refl, refl, refl)
+elsewhere End = (refl, refl, refl, refl)
+elsewhere Ampersand = (refl, refl, refl, refl)
+elsewhere NewLine = (refl, refl, refl, refl)
+elsewhere Left = (refl, refl, refl, refl)
+elsewhere Right = (refl, refl, refl, refl)
+elsewhere Middle = (refl, refl, refl, refl)
+elsewhere (Paren x) = (refl, refl, refl, refl)
+elsewhere LBrace = (refl, refl, refl, refl)
+elsewhere RBrace = (refl, refl, refl, refl)
+elsewhere Frac = (refl, refl, refl, refl)
+elsewhere Underscore = (refl, refl, refl, refl)
+elsewhere Circumflex = (refl, refl, refl, refl)
+elsewhere (Binom x) = (refl, refl, refl, refl)
+elsewhere Overset = (refl, refl, refl, refl)
+elsewhere Underset = (refl, refl, refl, refl)
+elsewhere (Overbrace x) = (refl, refl, refl, refl)
+elsewhere (Underbrace x) = (refl, refl, refl, refl)
+elsewhere Sqrt = (refl, refl, refl, refl)
+elsewhere (Integral x) = (refl, refl, refl, refl)
+elsewhere (Lim x) = (refl, refl, refl, refl)
+elsewhere (Space x) = (refl, refl, refl, refl)
+elsewhere (Style x) = (refl, refl, refl, refl)
+elsewhere (Big x) = (refl, refl, refl, refl)
+elsewhere (Over x y) = (refl, refl, refl, refl)
+elsewhere (Under x y) = (refl, refl, refl, refl)
+elsewhere (Operator x) = (refl, refl, refl, refl)
+elsewhere (BigOp x) = (refl, refl, refl, refl)
+elsewhere (Letter x y) = (refl, refl, refl, refl)
+elsewhere (Number x y) = (refl, refl, refl, refl)
+elsewhere (Function x) = (refl, refl, refl, refl)
+elsewhere OperatorName = (refl, refl, refl, refl)
+elsewhere Slashed = (refl, refl, refl, refl)
+elsewhere Text = (refl, refl, refl, refl)
+elsewhere (Command x y) = (refl, refl, refl, refl)
 
 pub no-mark : (t : Token) → OneOf (others marked) (tagOf the-type t) → markOf t ≡ Mark.Other
 no-mark t h = rw (at-key (among marked) false (others marked) (tagOf the-type t) refl h) at (elsewhere t .0)
@@ -91,6 +95,12 @@ no-paren t h = rw (at-key (among parens) false (others parens) (tagOf the-type t
 
 pub no-leaf : (t : Token) → OneOf (others leaves) (tagOf the-type t) → leafOf t ≡ Leaf.Undefined Undefined.EOF
 no-leaf t h = rw (at-key (among leaves) false (others leaves) (tagOf the-type t) refl h) at (elsewhere t .2)
+
+pub plain : (t : Token) → OneOf plains (tagOf the-type t) → isDefined (leafOf t) ≡ true
+plain t h = elsewhere t .3 ∙ at-key (among plains) true plains (tagOf the-type t) refl h
+
+pub not-plain : (t : Token) → OneOf (others plains) (tagOf the-type t) → isDefined (leafOf t) ≡ false
+not-plain t h = elsewhere t .3 ∙ at-key (among plains) false (others plains) (tagOf the-type t) refl h
 
 -- the first of two fences, if there is one
 abbrev orElse : Option ℕ → Option ℕ → Option ℕ

@@ -1,6 +1,6 @@
 -- What the parser's functions ask of a token, as enums of the code answer it.
 -- Assumes nothing.
-use mathlib.Core.Bool.{Bool, true, false}
+use mathlib.Core.Bool.{Bool, true, false, _&&_, _||_, not}
 use mathlib.Core.Option.{Option, none, some}
 use Prim.Native.Nat.{ℕ}
 use Rattle.token.specs.declared.Token.{Token}
@@ -87,3 +87,27 @@ leafOf OperatorName = Leaf.Undefined Undefined.EOF
 leafOf Slashed = Leaf.Undefined Undefined.EOF
 leafOf Text = Leaf.Undefined Undefined.EOF
 leafOf (Command a e) = Leaf.Undefined (Undefined.Command a e)
+
+-- a leaf that is not an undefined token
+unfoldable pub isDefined : Leaf → Bool
+isDefined (Leaf.Number a e) = true
+isDefined (Leaf.Letter c v) = true
+isDefined (Leaf.Operator c) = true
+isDefined (Leaf.Function t) = true
+isDefined (Leaf.FunctionName a e) = true
+isDefined (Leaf.Space w) = true
+isDefined (Leaf.StrechedOp o) = true
+isDefined (Leaf.OtherOperator t) = true
+isDefined (Leaf.SizedParen z t) = true
+isDefined (Leaf.Text a e) = true
+isDefined Leaf.Ampersand = true
+isDefined Leaf.NewLine = true
+isDefined (Leaf.Undefined u) = false
+
+-- a prime or the mark of a script, which is put on the node before it
+unfoldable pub isPutOn : Token → Bool
+isPutOn t = tokenIs t Mark.Prime || tokenIs t Mark.Underscore || tokenIs t Mark.Circumflex
+
+-- a token is a whole node where it is a leaf and the token behind is not put on it
+unfoldable pub standsAlone : Token → Token → Bool
+standsAlone t behind = isDefined (leafOf t) && not (isPutOn behind)

@@ -8,7 +8,7 @@ use token::Token;
 use token::Undefined;
 ghost use mathlib.Core.Path.{_≡_};
 ghost use Rattle.token.specs.Roles.{markNumber, parenMark, operatorMark, markOf, tokenIs, parenOf, fenceOf};
-ghost use Rattle.parser.specs.Marks.{isLetter, fence, scriptOf, scriptKind, otherLimit, leafOf};
+ghost use Rattle.parser.specs.Marks.{isLetter, fence, scriptOf, scriptKind, otherLimit, leafOf, isDefined, isPutOn, standsAlone};
 
 // The mark of a parenthesis, by its text.
 fn paren_mark(t: u32) -> Mark
@@ -164,4 +164,44 @@ pub fn leaf_of(t: Token) -> Leaf
         Token::Command(a, e) => Leaf::Undefined(Undefined::Command(a, e)),
         _ => Leaf::Undefined(Undefined::EOF),
     }
+}
+
+// Whether a token is a leaf by itself, and not an undefined one.
+fn is_plain(t: Token) -> bool
+    ensures { λ r. ⌜ r ≡ isDefined (leafOf t) ⌝ }
+{
+    match t {
+        Token::Number(_, _)
+        | Token::Letter(_, _)
+        | Token::Operator(_)
+        | Token::Function(_)
+        | Token::Space(_)
+        | Token::Paren(_)
+        | Token::Ampersand
+        | Token::NewLine => true,
+        _ => false,
+    }
+}
+
+// Whether a token is put on the node before it: a prime, or a script with its operand.
+fn is_put_on(t: Token) -> bool
+    ensures { λ r. ⌜ r ≡ isPutOn t ⌝ }
+{
+    if token_is(t, Mark::Prime) {
+        return true;
+    }
+    if token_is(t, Mark::Underscore) {
+        return true;
+    }
+    token_is(t, Mark::Circumflex)
+}
+
+// Whether a token is a whole node: nothing is put on the leaf that it is.
+pub fn stands_alone(t: Token, behind: Token) -> bool
+    ensures { λ r. ⌜ r ≡ standsAlone t behind ⌝ }
+{
+    if is_plain(t) {
+        return !is_put_on(behind);
+    }
+    false
 }

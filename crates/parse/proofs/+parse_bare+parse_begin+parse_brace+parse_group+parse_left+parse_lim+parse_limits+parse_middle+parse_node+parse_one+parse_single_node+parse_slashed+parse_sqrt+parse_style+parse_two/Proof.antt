@@ -16,10 +16,10 @@ use Rattle.parser.proofs.BodyLaws.{node-keeps, single-keeps}
 use Rattle.parser.proofs.MoveLaws.{text-sound}
 use Rattle.parse.proofs.RoomLaws.{Starts, Ends, starts-ready, ready-starts, ready-ends, ends-next, starts-next, ends-mark, starts-text, ends-free, starts-free, node-ends, group-ends, ready-node, ready-free, prime-free, wide-3, next-made, text-made, bare-keeps}
 use Rattle.parse.proofs.SeqLaws.{after-none, only, after-one, first-below, after-two, after-two-swapped, after-set, bare-as}
-use Rattle.parse.proofs.LeafLaws.{bare-leaf, leaf-placed}
+use Rattle.parse.proofs.LeafLaws.{bare-leaf, alone-is, leaf-placed}
 use Rattle.parse.proofs.LoopLaws.{loops-none, loops-ready, loops-few, loops-free, more-ends, more-append, more-less}
 use Rattle.parse.proofs.GroupLaws.{GroupLoop, group-end, group-refused, group-closed, group-turns}
-use Rattle.parse.proofs.WayLaws.{one-no, one-is, style-no, style-is, middle-no, middle-is, two-no, two-no-2, two-is, brace-no, brace-bare, brace-no-2, brace-is, sqrt-no, sqrt-is, root-no, root-no-2, root-is, slashed-no, slashed-is, fence-none, fence-some, left-no, left-no-2, left-is, begin-no, begin-is, script-mark, scriptMark, node-no, node-bare, script-no, script-is, limits-alone, limits-no, limit-is, limits-no-2, limits-is, lim-alone, lim-no, lim-is, node-zero, single-zero, node-more, single-more, bare-no, bare-is, group-is, script-byte, other-byte}
+use Rattle.parse.proofs.WayLaws.{one-no, one-is, style-no, style-is, middle-no, middle-is, two-no, two-no-2, two-is, brace-no, brace-bare, brace-no-2, brace-is, sqrt-no, sqrt-is, root-no, root-no-2, root-is, slashed-no, slashed-is, fence-none, fence-some, left-no, left-no-2, left-is, begin-no, begin-is, script-mark, scriptMark, node-no, node-bare, script-no, script-is, limits-alone, limits-no, limit-is, limits-no-2, limits-is, lim-alone, lim-no, lim-is, node-few, single-zero, node-more, single-more, bare-no, bare-is, group-is, script-byte, other-byte}
 use borrow.Author.Needs.{needs}
 use native.Mathlib.Omega.{arith}
 use borrow.Fn.Kinds.{In}
@@ -99,6 +99,7 @@ use Rattle.parser.proofs.marks.leaf_of.Reads as leaf-of-reads
 use Rattle.parser.proofs.marks.other_limit.Reads as other-limit-reads
 use Rattle.parser.proofs.marks.script_kind.Reads as script-kind-reads
 use Rattle.parser.proofs.marks.script_of.Reads as script-of-reads
+use Rattle.parser.proofs.marks.stands_alone.Reads as stands-alone-reads
 use Rattle.parse.proofs.+parse_bare+parse_begin+parse_brace+parse_group+parse_left+parse_lim+parse_limits+parse_middle+parse_node+parse_one+parse_single_node+parse_slashed+parse_sqrt+parse_style+parse_two.{statement}
 use Rattle.parse.proofs.+parse_bare+parse_begin+parse_brace+parse_group+parse_left+parse_lim+parse_limits+parse_middle+parse_node+parse_one+parse_single_node+parse_slashed+parse_sqrt+parse_style+parse_two.Tie.{close}
 
@@ -318,7 +319,7 @@ parse-middle-calls t = (next-token-reads.Asked, next-token-reads.Learnt, parse-s
 
 -- the contracts that parse-node is proved from
 abbrev parse-node-calls : ℕ → parse-node-lts.Claims
-parse-node-calls t = (parse-single-node-below t, parse-single-node.Post, script-of-reads.Asked, script-of-reads.Learnt, next-token-reads.Asked, next-token-reads.Learnt, parse-node-below t, parse-node.Post, script-kind-reads.Asked, script-kind-reads.Learnt, make-two-reads.Asked, make-two-reads.Learnt)
+parse-node-calls t = (stands-alone-reads.Asked, stands-alone-reads.Learnt, leaf-of-reads.Asked, leaf-of-reads.Learnt, make-leaf-reads.Asked, make-leaf-reads.Learnt, parse-single-node-below t, parse-single-node.Post, script-of-reads.Asked, script-of-reads.Learnt, next-token-reads.Asked, next-token-reads.Learnt, parse-node-below t, parse-node.Post, script-kind-reads.Asked, script-kind-reads.Learnt, make-two-reads.Asked, make-two-reads.Learnt)
 
 -- the contracts that parse-one is proved from
 abbrev parse-one-calls : ℕ → parse-one-lts.Claims
@@ -1240,16 +1241,33 @@ parse-middle-returns-2 t c =
 
 parse-node-returns : (t : ℕ) → parse-node-lts.Need-returns (parse-node-calls t) (parse-node-at t) parse-node.Post
 parse-node-returns t c =
-    node-zero ((c .before .before .before .args) .depth) ((c .before .before .before .args) .s .now) ((c .before .before .before .args) .p) ((c .if1) .taken)
+    node-few ((c .before .before .before .args) .depth) ((c .before .before .before .args) .s .now) ((c .before .before .before .args) .p) ((c .if1) .taken)
+
+parse-node-stands-alone-requires : (t : ℕ) → parse-node-lts.Need-stands-alone-requires (parse-node-calls t) (parse-node-at t) parse-node.Post
+parse-node-stands-alone-requires t c κs = search needs
+
+parse-node-leaf-of-requires : (t : ℕ) → parse-node-lts.Need-leaf-of-requires (parse-node-calls t) (parse-node-at t) parse-node.Post
+parse-node-leaf-of-requires t c κs = search needs
+
+parse-node-make-leaf-requires : (t : ℕ) → parse-node-lts.Need-make-leaf-requires (parse-node-calls t) (parse-node-at t) parse-node.Post
+parse-node-make-leaf-requires t c κs =
+    (ready-free ((c .before .before .before .before .before .before .before .before .before .pre) .1), rw ((c .leaf-of) .ensures) (leaf-placed (length ((c .before .before .before .before .before .before .before .before .before .args) .s .now)) _ ((c .before .before .before .before .before .before .before .before .before .pre) .1 .long) ((c .before .before .before .before .before .before .before .before .before .pre) .1 .sound .cur .places)))
+
+parse-node-same-length : (t : ℕ) → parse-node-lts.Need-same-length (parse-node-calls t) (parse-node-at t) parse-node.Post
+parse-node-same-length t c = search needs
+
+parse-node-returns-2 : (t : ℕ) → parse-node-lts.Need-returns-2 (parse-node-calls t) (parse-node-at t) parse-node.Post
+parse-node-returns-2 t c =
+    after-none _ _ ((c .before .before .before .before .before .before .before .before .before .before .before .before .args) .p) ((c .before .before .before .before .before .before .before .before .before .before .before .before .args) .p) _ _ ((c .before .before .make-leaf) .result) refl (rw ((c .before .before .before .leaf-of) .ensures) at ((c .before .before .make-leaf) .ensures)) (alone-is ((c .before .before .before .before .before .before .before .before .before .before .before .before .args) .depth) ((c .before .before .before .before .before .before .before .before .before .before .before .before .args) .s .now) ((c .before .before .before .before .before .before .before .before .before .before .before .before .args) .p) ((c .before .before .before .before .before .before .before .before .before .if1) .left) (sym ((c .before .before .before .before .before .before .stands-alone) .ensures) ∙ (c .before .before .before .before .before .if2) .taken))
 
 parse-node-sub-parse-single-node : (t : ℕ) → parse-node-lts.Need-sub-parse-single-node (parse-node-calls t) (parse-node-at t) parse-node.Post
 parse-node-sub-parse-single-node t c = search needs
 
 parse-node-parse-single-node-requires : (t : ℕ) → parse-node-lts.Need-parse-single-node-requires (parse-node-calls t) (parse-node-at t) parse-node.Post
 parse-node-parse-single-node-requires t c κs =
-    let m = (c .before .before .before .before .pre) .0 in
-    let z = (c .before .if1) .left in
-    (omega arith, (c .before .before .before .before .pre) .1)
+    let m = (c .before .before .before .before .before .before .before .before .pre) .0 in
+    let z = (c .before .before .before .before .before .if1) .left in
+    (omega arith, (c .before .before .before .before .before .before .before .before .pre) .1)
 
 parse-node-enum-known-r : (t : ℕ) → parse-node-lts.Need-enum-known-r (parse-node-calls t) (parse-node-at t) parse-node.Post
 parse-node-enum-known-r t c = search needs
@@ -1269,24 +1287,24 @@ parse-node-enum-known-over t c = search needs
 parse-node-next-token-requires : (t : ℕ) → parse-node-lts.Need-next-token-requires (parse-node-calls t) (parse-node-at t) parse-node.Post
 parse-node-next-token-requires t c κs =
     let g = rw ((c .before .before .before .before .before .before .left) .given .1) at ((c .before .before .before .before .before .before .before .before .before .before .parse-single-node) .ensures) in
-    (ready-node ((c .before .before .before .before .before .before .before .before .before .before .parse-single-node) .kept .1 .0) ((c .before .before .before .before .before .before .before .before .before .before .before .before .before .before .before .pre) .1) (single-keeps (((c .before .before .before .before .before .before .before .before .before .before .before .before .before .before .before .args) .depth) - 1) ((c .before .before .before .before .before .before .before .before .before .before .before .before .before .before .before .args) .s .now)) g) .sound .peek .inside
+    (ready-node ((c .before .before .before .before .before .before .before .before .before .before .parse-single-node) .kept .1 .0) ((c .before .before .before .before .before .before .before .before .before .before .before .before .before .before .before .before .before .before .before .pre) .1) (single-keeps (((c .before .before .before .before .before .before .before .before .before .before .before .before .before .before .before .before .before .before .before .args) .depth) - 1) ((c .before .before .before .before .before .before .before .before .before .before .before .before .before .before .before .before .before .before .before .args) .s .now)) g) .sound .peek .inside
 
 parse-node-next-token-requires-2 : (t : ℕ) → parse-node-lts.Need-next-token-requires-2 (parse-node-calls t) (parse-node-at t) parse-node.Post
 parse-node-next-token-requires-2 t c κs =
     let g = rw ((c .before .before .before .before .before .before .before .left) .given .1) at ((c .before .before .before .before .before .before .before .before .before .before .before .parse-single-node) .ensures) in
-    (ends-next (ready-node ((c .before .before .before .before .before .before .before .before .before .before .before .parse-single-node) .kept .1 .0) ((c .before .before .before .before .before .before .before .before .before .before .before .before .before .before .before .before .pre) .1) (single-keeps (((c .before .before .before .before .before .before .before .before .before .before .before .before .before .before .before .before .args) .depth) - 1) ((c .before .before .before .before .before .before .before .before .before .before .before .before .before .before .before .before .args) .s .now)) g) ((c .next-token) .ensures)) .sound .peek .inside
+    (ends-next (ready-node ((c .before .before .before .before .before .before .before .before .before .before .before .parse-single-node) .kept .1 .0) ((c .before .before .before .before .before .before .before .before .before .before .before .before .before .before .before .before .before .before .before .before .pre) .1) (single-keeps (((c .before .before .before .before .before .before .before .before .before .before .before .before .before .before .before .before .before .before .before .before .args) .depth) - 1) ((c .before .before .before .before .before .before .before .before .before .before .before .before .before .before .before .before .before .before .before .before .args) .s .now)) g) ((c .next-token) .ensures)) .sound .peek .inside
 
 parse-node-sub-parse-node : (t : ℕ) → parse-node-lts.Need-sub-parse-node (parse-node-calls t) (parse-node-at t) parse-node.Post
 parse-node-sub-parse-node t c =
-    let z = (c .before .before .before .before .before .before .before .before .before .before .before .before .before .before .before .if1) .left in
+    let z = (c .before .before .before .before .before .before .before .before .before .before .before .before .before .before .before .before .before .before .before .if1) .left in
     omega arith
 
 parse-node-parse-node-requires : (t : ℕ) → parse-node-lts.Need-parse-node-requires (parse-node-calls t) (parse-node-at t) parse-node.Post
 parse-node-parse-node-requires t c κs =
-    let m = (c .before .before .before .before .before .before .before .before .before .before .before .before .before .before .before .before .before .before .pre) .0 in
-    let z = (c .before .before .before .before .before .before .before .before .before .before .before .before .before .before .before .if1) .left in
+    let m = (c .before .before .before .before .before .before .before .before .before .before .before .before .before .before .before .before .before .before .before .before .before .before .pre) .0 in
+    let z = (c .before .before .before .before .before .before .before .before .before .before .before .before .before .before .before .before .before .before .before .if1) .left in
     let g = rw ((c .before .before .before .before .before .before .before .before .before .left) .given .1) at ((c .before .before .before .before .before .before .before .before .before .before .before .before .before .parse-single-node) .ensures) in
-    (omega arith, starts-ready (ends-mark (scriptMark ((c .before .before .before .before .over) .given .0 .0)) (ready-node ((c .before .before .before .before .before .before .before .before .before .before .before .before .before .parse-single-node) .kept .1 .0) ((c .before .before .before .before .before .before .before .before .before .before .before .before .before .before .before .before .before .before .pre) .1) (single-keeps (((c .before .before .before .before .before .before .before .before .before .before .before .before .before .before .before .before .before .before .args) .depth) - 1) ((c .before .before .before .before .before .before .before .before .before .before .before .before .before .before .before .before .before .before .args) .s .now)) g) (script-mark _ ((c .before .before .before .before .over) .given .0 .0) (sym ((c .before .before .before .before .before .before .script-of) .ensures) ∙ (c .before .before .before .before .over) .given .1)) (script-byte ((c .before .before .before .before .over) .given .0 .0)) ((c .before .before .next-token) .ensures) ((c .before .next-token2) .ensures)) (omega arith))
+    (omega arith, starts-ready (ends-mark (scriptMark ((c .before .before .before .before .over) .given .0 .0)) (ready-node ((c .before .before .before .before .before .before .before .before .before .before .before .before .before .parse-single-node) .kept .1 .0) ((c .before .before .before .before .before .before .before .before .before .before .before .before .before .before .before .before .before .before .before .before .before .before .pre) .1) (single-keeps (((c .before .before .before .before .before .before .before .before .before .before .before .before .before .before .before .before .before .before .before .before .before .before .args) .depth) - 1) ((c .before .before .before .before .before .before .before .before .before .before .before .before .before .before .before .before .before .before .before .before .before .before .args) .s .now)) g) (script-mark _ ((c .before .before .before .before .over) .given .0 .0) (sym ((c .before .before .before .before .before .before .script-of) .ensures) ∙ (c .before .before .before .before .over) .given .1)) (script-byte ((c .before .before .before .before .over) .given .0 .0)) ((c .before .before .next-token) .ensures) ((c .before .next-token2) .ensures)) (omega arith))
 
 parse-node-enum-known-r-2 : (t : ℕ) → parse-node-lts.Need-enum-known-r-2 (parse-node-calls t) (parse-node-at t) parse-node.Post
 parse-node-enum-known-r-2 t c = search needs
@@ -1301,43 +1319,43 @@ parse-node-make-two-requires : (t : ℕ) → parse-node-lts.Need-make-two-requir
 parse-node-make-two-requires t c κs =
     let g = rw ((c .before .before .before .before .before .before .before .before .before .before .before .before .before .before .before .before .before .left) .given .1) at ((c .before .before .before .before .before .before .before .before .before .before .before .before .before .before .before .before .before .before .before .before .before .parse-single-node) .ensures) in
     let h = rw ((c .before .before .before .right) .given .1) at ((c .before .before .before .before .before .before .before .parse-node) .ensures) in
-    (ends-free 1 (node-ends ((c .before .before .before .before .before .before .before .parse-node) .kept .1 .0) 1 (ends-mark (scriptMark ((c .before .before .before .before .before .before .before .before .before .before .before .before .over) .given .0 .0)) (ready-node ((c .before .before .before .before .before .before .before .before .before .before .before .before .before .before .before .before .before .before .before .before .before .parse-single-node) .kept .1 .0) ((c .before .before .before .before .before .before .before .before .before .before .before .before .before .before .before .before .before .before .before .before .before .before .before .before .before .before .pre) .1) (single-keeps (((c .before .before .before .before .before .before .before .before .before .before .before .before .before .before .before .before .before .before .before .before .before .before .before .before .before .before .args) .depth) - 1) ((c .before .before .before .before .before .before .before .before .before .before .before .before .before .before .before .before .before .before .before .before .before .before .before .before .before .before .args) .s .now)) g) (script-mark _ ((c .before .before .before .before .before .before .before .before .before .before .before .before .over) .given .0 .0) (sym ((c .before .before .before .before .before .before .before .before .before .before .before .before .before .before .script-of) .ensures) ∙ (c .before .before .before .before .before .before .before .before .before .before .before .before .over) .given .1)) (script-byte ((c .before .before .before .before .before .before .before .before .before .before .before .before .over) .given .0 .0)) ((c .before .before .before .before .before .before .before .before .before .before .next-token) .ensures) ((c .before .before .before .before .before .before .before .before .before .next-token2) .ensures)) (omega arith) (node-keeps (((c .before .before .before .before .before .before .before .before .before .before .before .before .before .before .before .before .before .before .before .before .before .before .before .before .before .before .args) .depth) - 1) ((c .before .before .before .before .before .before .before .before .before .before .before .before .before .before .before .before .before .before .before .before .before .before .before .before .before .before .args) .s .now)) h) (omega arith), first-below _ _ ((c .before .before .before .before .before .before .before .before .before .before .before .before .before .before .before .before .before .before .before .before .before .before .before .before .before .before .args) .p) _ _ _ _ refl g _ _ _ _ _ (next-made ((c .before .before .before .before .before .before .before .before .before .before .before .before .before .before .before .before .before .before .before .before .before .before .before .before .before .before .args) .s .now) _ ((c .before .before .before .before .before .before .before .before .before .next-token2) .ensures) ∙ next-made ((c .before .before .before .before .before .before .before .before .before .before .before .before .before .before .before .before .before .before .before .before .before .before .before .before .before .before .args) .s .now) _ ((c .before .before .before .before .before .before .before .before .before .before .next-token) .ensures)) h, h .below)
-
-parse-node-same-length : (t : ℕ) → parse-node-lts.Need-same-length (parse-node-calls t) (parse-node-at t) parse-node.Post
-parse-node-same-length t c = search needs
-
-parse-node-returns-2 : (t : ℕ) → parse-node-lts.Need-returns-2 (parse-node-calls t) (parse-node-at t) parse-node.Post
-parse-node-returns-2 t c =
-    let g = rw ((c .before .r) .given .1) at ((c .before .before .before .before .before .parse-single-node) .ensures) in
-    node-more ((c .before .before .before .before .before .before .before .before .before .before .args) .depth) ((c .before .before .before .before .before .before .before .before .before .before .args) .s .now) ((c .before .before .before .before .before .before .before .before .before .before .args) .p) ((c .before .before .before .before .before .before .before .if1) .left) ∙ node-no (λ q. parseNode (((c .before .before .before .before .before .before .before .before .before .before .args) .depth) - 1) ((c .before .before .before .before .before .before .before .before .before .before .args) .s .now) q) (λ q. parseSingleNode (((c .before .before .before .before .before .before .before .before .before .before .args) .depth) - 1) ((c .before .before .before .before .before .before .before .before .before .before .args) .s .now) q) ((c .before .before .before .before .before .before .before .before .before .before .args) .s .now) ((c .before .before .before .before .before .before .before .before .before .before .args) .p) g
+    (ends-free 1 (node-ends ((c .before .before .before .before .before .before .before .parse-node) .kept .1 .0) 1 (ends-mark (scriptMark ((c .before .before .before .before .before .before .before .before .before .before .before .before .over) .given .0 .0)) (ready-node ((c .before .before .before .before .before .before .before .before .before .before .before .before .before .before .before .before .before .before .before .before .before .parse-single-node) .kept .1 .0) ((c .before .before .before .before .before .before .before .before .before .before .before .before .before .before .before .before .before .before .before .before .before .before .before .before .before .before .before .before .before .before .pre) .1) (single-keeps (((c .before .before .before .before .before .before .before .before .before .before .before .before .before .before .before .before .before .before .before .before .before .before .before .before .before .before .before .before .before .before .args) .depth) - 1) ((c .before .before .before .before .before .before .before .before .before .before .before .before .before .before .before .before .before .before .before .before .before .before .before .before .before .before .before .before .before .before .args) .s .now)) g) (script-mark _ ((c .before .before .before .before .before .before .before .before .before .before .before .before .over) .given .0 .0) (sym ((c .before .before .before .before .before .before .before .before .before .before .before .before .before .before .script-of) .ensures) ∙ (c .before .before .before .before .before .before .before .before .before .before .before .before .over) .given .1)) (script-byte ((c .before .before .before .before .before .before .before .before .before .before .before .before .over) .given .0 .0)) ((c .before .before .before .before .before .before .before .before .before .before .next-token) .ensures) ((c .before .before .before .before .before .before .before .before .before .next-token2) .ensures)) (omega arith) (node-keeps (((c .before .before .before .before .before .before .before .before .before .before .before .before .before .before .before .before .before .before .before .before .before .before .before .before .before .before .before .before .before .before .args) .depth) - 1) ((c .before .before .before .before .before .before .before .before .before .before .before .before .before .before .before .before .before .before .before .before .before .before .before .before .before .before .before .before .before .before .args) .s .now)) h) (omega arith), first-below _ _ ((c .before .before .before .before .before .before .before .before .before .before .before .before .before .before .before .before .before .before .before .before .before .before .before .before .before .before .before .before .before .before .args) .p) _ _ _ _ refl g _ _ _ _ _ (next-made ((c .before .before .before .before .before .before .before .before .before .before .before .before .before .before .before .before .before .before .before .before .before .before .before .before .before .before .before .before .before .before .args) .s .now) _ ((c .before .before .before .before .before .before .before .before .before .next-token2) .ensures) ∙ next-made ((c .before .before .before .before .before .before .before .before .before .before .before .before .before .before .before .before .before .before .before .before .before .before .before .before .before .before .before .before .before .before .args) .s .now) _ ((c .before .before .before .before .before .before .before .before .before .before .next-token) .ensures)) h, h .below)
 
 parse-node-same-length-2 : (t : ℕ) → parse-node-lts.Need-same-length-2 (parse-node-calls t) (parse-node-at t) parse-node.Post
 parse-node-same-length-2 t c = search needs
 
 parse-node-returns-3 : (t : ℕ) → parse-node-lts.Need-returns-3 (parse-node-calls t) (parse-node-at t) parse-node.Post
 parse-node-returns-3 t c =
-    let g = rw ((c .before .before .before .before .before .left) .given .1) at ((c .before .before .before .before .before .before .before .before .before .parse-single-node) .ensures) in
-    only _ _ ((c .before .before .before .before .before .before .before .before .before .before .before .before .before .before .args) .p) _ _ _ _ refl g _ (node-more ((c .before .before .before .before .before .before .before .before .before .before .before .before .before .before .args) .depth) ((c .before .before .before .before .before .before .before .before .before .before .before .before .before .before .args) .s .now) ((c .before .before .before .before .before .before .before .before .before .before .before .before .before .before .args) .p) ((c .before .before .before .before .before .before .before .before .before .before .before .if1) .left) ∙ node-bare (λ q. parseNode (((c .before .before .before .before .before .before .before .before .before .before .before .before .before .before .args) .depth) - 1) ((c .before .before .before .before .before .before .before .before .before .before .before .before .before .before .args) .s .now) q) (λ q. parseSingleNode (((c .before .before .before .before .before .before .before .before .before .before .before .before .before .before .args) .depth) - 1) ((c .before .before .before .before .before .before .before .before .before .before .before .before .before .before .args) .s .now) q) ((c .before .before .before .before .before .before .before .before .before .before .before .before .before .before .args) .s .now) ((c .before .before .before .before .before .before .before .before .before .before .before .before .before .before .args) .p) (g .is) (sym ((c .before .before .script-of) .ensures) ∙ (c .enum-told) .given .1))
+    let g = rw ((c .before .r) .given .1) at ((c .before .before .before .before .before .parse-single-node) .ensures) in
+    node-more ((c .before .before .before .before .before .before .before .before .before .before .before .before .before .before .args) .depth) ((c .before .before .before .before .before .before .before .before .before .before .before .before .before .before .args) .s .now) ((c .before .before .before .before .before .before .before .before .before .before .before .before .before .before .args) .p) ((c .before .before .before .before .before .before .before .before .before .before .before .if1) .left) ∙ node-no (λ q. parseNode (((c .before .before .before .before .before .before .before .before .before .before .before .before .before .before .args) .depth) - 1) ((c .before .before .before .before .before .before .before .before .before .before .before .before .before .before .args) .s .now) q) (λ q. parseSingleNode (((c .before .before .before .before .before .before .before .before .before .before .before .before .before .before .args) .depth) - 1) ((c .before .before .before .before .before .before .before .before .before .before .before .before .before .before .args) .s .now) q) ((c .before .before .before .before .before .before .before .before .before .before .before .before .before .before .args) .s .now) ((c .before .before .before .before .before .before .before .before .before .before .before .before .before .before .args) .p) g
 
 parse-node-same-length-3 : (t : ℕ) → parse-node-lts.Need-same-length-3 (parse-node-calls t) (parse-node-at t) parse-node.Post
-parse-node-same-length-3 t c =
-    (c .before .before .before .before .before .parse-node) .kept .1 .0 ∙ (c .before .before .before .before .before .before .before .before .before .before .before .before .before .before .before .before .before .before .before .parse-single-node) .kept .1 .0
+parse-node-same-length-3 t c = search needs
 
 parse-node-returns-4 : (t : ℕ) → parse-node-lts.Need-returns-4 (parse-node-calls t) (parse-node-at t) parse-node.Post
 parse-node-returns-4 t c =
-    let g = rw ((c .before .before .before .before .before .before .before .before .before .before .before .before .before .before .before .left) .given .1) at ((c .before .before .before .before .before .before .before .before .before .before .before .before .before .before .before .before .before .before .before .parse-single-node) .ensures) in
-    let h = rw ((c .before .r2) .given .1) at ((c .before .before .before .before .before .parse-node) .ensures) in
-    node-more ((c .before .before .before .before .before .before .before .before .before .before .before .before .before .before .before .before .before .before .before .before .before .before .before .before .args) .depth) ((c .before .before .before .before .before .before .before .before .before .before .before .before .before .before .before .before .before .before .before .before .before .before .before .before .args) .s .now) ((c .before .before .before .before .before .before .before .before .before .before .before .before .before .before .before .before .before .before .before .before .before .before .before .before .args) .p) ((c .before .before .before .before .before .before .before .before .before .before .before .before .before .before .before .before .before .before .before .before .before .if1) .left) ∙ script-no (λ q. parseNode (((c .before .before .before .before .before .before .before .before .before .before .before .before .before .before .before .before .before .before .before .before .before .before .before .before .args) .depth) - 1) ((c .before .before .before .before .before .before .before .before .before .before .before .before .before .before .before .before .before .before .before .before .before .before .before .before .args) .s .now) q) (λ q. parseSingleNode (((c .before .before .before .before .before .before .before .before .before .before .before .before .before .before .before .before .before .before .before .before .before .before .before .before .args) .depth) - 1) ((c .before .before .before .before .before .before .before .before .before .before .before .before .before .before .before .before .before .before .before .before .before .before .before .before .args) .s .now) q) ((c .before .before .before .before .before .before .before .before .before .before .before .before .before .before .before .before .before .before .before .before .before .before .before .before .args) .s .now) ((c .before .before .before .before .before .before .before .before .before .before .before .before .before .before .before .before .before .before .before .before .before .before .before .before .args) .p) (g .is) ((c .before .before .before .before .before .before .before .before .before .before .over) .given .0 .0) (sym ((c .before .before .before .before .before .before .before .before .before .before .before .before .script-of) .ensures) ∙ (c .before .before .before .before .before .before .before .before .before .before .over) .given .1) ((c .before .before .before .before .before .before .before .before .next-token) .ensures) ((c .before .before .before .before .before .before .before .next-token2) .ensures) h
+    let g = rw ((c .before .before .before .before .before .left) .given .1) at ((c .before .before .before .before .before .before .before .before .before .parse-single-node) .ensures) in
+    only _ _ ((c .before .before .before .before .before .before .before .before .before .before .before .before .before .before .before .before .before .before .args) .p) _ _ _ _ refl g _ (node-more ((c .before .before .before .before .before .before .before .before .before .before .before .before .before .before .before .before .before .before .args) .depth) ((c .before .before .before .before .before .before .before .before .before .before .before .before .before .before .before .before .before .before .args) .s .now) ((c .before .before .before .before .before .before .before .before .before .before .before .before .before .before .before .before .before .before .args) .p) ((c .before .before .before .before .before .before .before .before .before .before .before .before .before .before .before .if1) .left) ∙ node-bare (λ q. parseNode (((c .before .before .before .before .before .before .before .before .before .before .before .before .before .before .before .before .before .before .args) .depth) - 1) ((c .before .before .before .before .before .before .before .before .before .before .before .before .before .before .before .before .before .before .args) .s .now) q) (λ q. parseSingleNode (((c .before .before .before .before .before .before .before .before .before .before .before .before .before .before .before .before .before .before .args) .depth) - 1) ((c .before .before .before .before .before .before .before .before .before .before .before .before .before .before .before .before .before .before .args) .s .now) q) ((c .before .before .before .before .before .before .before .before .before .before .before .before .before .before .before .before .before .before .args) .s .now) ((c .before .before .before .before .before .before .before .before .before .before .before .before .before .before .before .before .before .before .args) .p) (g .is) (sym ((c .before .before .script-of) .ensures) ∙ (c .enum-told) .given .1))
 
 parse-node-same-length-4 : (t : ℕ) → parse-node-lts.Need-same-length-4 (parse-node-calls t) (parse-node-at t) parse-node.Post
 parse-node-same-length-4 t c =
-    (c .before .before .make-two) .kept .0 ∙ (c .before .before .before .before .before .before .before .before .before .before .parse-node) .kept .1 .0 ∙ (c .before .before .before .before .before .before .before .before .before .before .before .before .before .before .before .before .before .before .before .before .before .before .before .before .parse-single-node) .kept .1 .0
+    (c .before .before .before .before .before .parse-node) .kept .1 .0 ∙ (c .before .before .before .before .before .before .before .before .before .before .before .before .before .before .before .before .before .before .before .parse-single-node) .kept .1 .0
 
 parse-node-returns-5 : (t : ℕ) → parse-node-lts.Need-returns-5 (parse-node-calls t) (parse-node-at t) parse-node.Post
 parse-node-returns-5 t c =
+    let g = rw ((c .before .before .before .before .before .before .before .before .before .before .before .before .before .before .before .left) .given .1) at ((c .before .before .before .before .before .before .before .before .before .before .before .before .before .before .before .before .before .before .before .parse-single-node) .ensures) in
+    let h = rw ((c .before .r2) .given .1) at ((c .before .before .before .before .before .parse-node) .ensures) in
+    node-more ((c .before .before .before .before .before .before .before .before .before .before .before .before .before .before .before .before .before .before .before .before .before .before .before .before .before .before .before .before .args) .depth) ((c .before .before .before .before .before .before .before .before .before .before .before .before .before .before .before .before .before .before .before .before .before .before .before .before .before .before .before .before .args) .s .now) ((c .before .before .before .before .before .before .before .before .before .before .before .before .before .before .before .before .before .before .before .before .before .before .before .before .before .before .before .before .args) .p) ((c .before .before .before .before .before .before .before .before .before .before .before .before .before .before .before .before .before .before .before .before .before .before .before .before .before .if1) .left) ∙ script-no (λ q. parseNode (((c .before .before .before .before .before .before .before .before .before .before .before .before .before .before .before .before .before .before .before .before .before .before .before .before .before .before .before .before .args) .depth) - 1) ((c .before .before .before .before .before .before .before .before .before .before .before .before .before .before .before .before .before .before .before .before .before .before .before .before .before .before .before .before .args) .s .now) q) (λ q. parseSingleNode (((c .before .before .before .before .before .before .before .before .before .before .before .before .before .before .before .before .before .before .before .before .before .before .before .before .before .before .before .before .args) .depth) - 1) ((c .before .before .before .before .before .before .before .before .before .before .before .before .before .before .before .before .before .before .before .before .before .before .before .before .before .before .before .before .args) .s .now) q) ((c .before .before .before .before .before .before .before .before .before .before .before .before .before .before .before .before .before .before .before .before .before .before .before .before .before .before .before .before .args) .s .now) ((c .before .before .before .before .before .before .before .before .before .before .before .before .before .before .before .before .before .before .before .before .before .before .before .before .before .before .before .before .args) .p) (g .is) ((c .before .before .before .before .before .before .before .before .before .before .over) .given .0 .0) (sym ((c .before .before .before .before .before .before .before .before .before .before .before .before .script-of) .ensures) ∙ (c .before .before .before .before .before .before .before .before .before .before .over) .given .1) ((c .before .before .before .before .before .before .before .before .next-token) .ensures) ((c .before .before .before .before .before .before .before .next-token2) .ensures) h
+
+parse-node-same-length-5 : (t : ℕ) → parse-node-lts.Need-same-length-5 (parse-node-calls t) (parse-node-at t) parse-node.Post
+parse-node-same-length-5 t c =
+    (c .before .before .make-two) .kept .0 ∙ (c .before .before .before .before .before .before .before .before .before .before .parse-node) .kept .1 .0 ∙ (c .before .before .before .before .before .before .before .before .before .before .before .before .before .before .before .before .before .before .before .before .before .before .before .before .parse-single-node) .kept .1 .0
+
+parse-node-returns-6 : (t : ℕ) → parse-node-lts.Need-returns-6 (parse-node-calls t) (parse-node-at t) parse-node.Post
+parse-node-returns-6 t c =
     let g = rw ((c .before .before .before .before .before .before .before .before .before .before .before .before .before .before .before .before .before .before .before .before .left) .given .1) at ((c .before .before .before .before .before .before .before .before .before .before .before .before .before .before .before .before .before .before .before .before .before .before .before .before .parse-single-node) .ensures) in
     let h = rw ((c .before .before .before .before .before .before .right) .given .1) at ((c .before .before .before .before .before .before .before .before .before .before .parse-node) .ensures) in
-    after-two _ _ ((c .before .before .before .before .before .before .before .before .before .before .before .before .before .before .before .before .before .before .before .before .before .before .before .before .before .before .before .before .before .args) .p) _ _ _ _ refl g _ _ _ _ _ (next-made ((c .before .before .before .before .before .before .before .before .before .before .before .before .before .before .before .before .before .before .before .before .before .before .before .before .before .before .before .before .before .args) .s .now) _ ((c .before .before .before .before .before .before .before .before .before .before .before .before .next-token2) .ensures) ∙ next-made ((c .before .before .before .before .before .before .before .before .before .before .before .before .before .before .before .before .before .before .before .before .before .before .before .before .before .before .before .before .before .args) .s .now) _ ((c .before .before .before .before .before .before .before .before .before .before .before .before .before .next-token) .ensures)) h _ _ _ _ ((c .before .before .make-two) .result) refl (rw ((c .before .before .before .script-kind) .ensures) at ((c .before .before .make-two) .ensures)) (node-more ((c .before .before .before .before .before .before .before .before .before .before .before .before .before .before .before .before .before .before .before .before .before .before .before .before .before .before .before .before .before .args) .depth) ((c .before .before .before .before .before .before .before .before .before .before .before .before .before .before .before .before .before .before .before .before .before .before .before .before .before .before .before .before .before .args) .s .now) ((c .before .before .before .before .before .before .before .before .before .before .before .before .before .before .before .before .before .before .before .before .before .before .before .before .before .before .before .before .before .args) .p) ((c .before .before .before .before .before .before .before .before .before .before .before .before .before .before .before .before .before .before .before .before .before .before .before .before .before .before .if1) .left) ∙ script-is (λ q. parseNode (((c .before .before .before .before .before .before .before .before .before .before .before .before .before .before .before .before .before .before .before .before .before .before .before .before .before .before .before .before .before .args) .depth) - 1) ((c .before .before .before .before .before .before .before .before .before .before .before .before .before .before .before .before .before .before .before .before .before .before .before .before .before .before .before .before .before .args) .s .now) q) (λ q. parseSingleNode (((c .before .before .before .before .before .before .before .before .before .before .before .before .before .before .before .before .before .before .before .before .before .before .before .before .before .before .before .before .before .args) .depth) - 1) ((c .before .before .before .before .before .before .before .before .before .before .before .before .before .before .before .before .before .before .before .before .before .before .before .before .before .before .before .before .before .args) .s .now) q) ((c .before .before .before .before .before .before .before .before .before .before .before .before .before .before .before .before .before .before .before .before .before .before .before .before .before .before .before .before .before .args) .s .now) ((c .before .before .before .before .before .before .before .before .before .before .before .before .before .before .before .before .before .before .before .before .before .before .before .before .before .before .before .before .before .args) .p) (g .is) ((c .before .before .before .before .before .before .before .before .before .before .before .before .before .before .before .over) .given .0 .0) (sym ((c .before .before .before .before .before .before .before .before .before .before .before .before .before .before .before .before .before .script-of) .ensures) ∙ (c .before .before .before .before .before .before .before .before .before .before .before .before .before .before .before .over) .given .1) ((c .before .before .before .before .before .before .before .before .before .before .before .before .before .next-token) .ensures) ((c .before .before .before .before .before .before .before .before .before .before .before .before .next-token2) .ensures) (h .is))
+    after-two _ _ ((c .before .before .before .before .before .before .before .before .before .before .before .before .before .before .before .before .before .before .before .before .before .before .before .before .before .before .before .before .before .before .before .before .before .args) .p) _ _ _ _ refl g _ _ _ _ _ (next-made ((c .before .before .before .before .before .before .before .before .before .before .before .before .before .before .before .before .before .before .before .before .before .before .before .before .before .before .before .before .before .before .before .before .before .args) .s .now) _ ((c .before .before .before .before .before .before .before .before .before .before .before .before .next-token2) .ensures) ∙ next-made ((c .before .before .before .before .before .before .before .before .before .before .before .before .before .before .before .before .before .before .before .before .before .before .before .before .before .before .before .before .before .before .before .before .before .args) .s .now) _ ((c .before .before .before .before .before .before .before .before .before .before .before .before .before .next-token) .ensures)) h _ _ _ _ ((c .before .before .make-two) .result) refl (rw ((c .before .before .before .script-kind) .ensures) at ((c .before .before .make-two) .ensures)) (node-more ((c .before .before .before .before .before .before .before .before .before .before .before .before .before .before .before .before .before .before .before .before .before .before .before .before .before .before .before .before .before .before .before .before .before .args) .depth) ((c .before .before .before .before .before .before .before .before .before .before .before .before .before .before .before .before .before .before .before .before .before .before .before .before .before .before .before .before .before .before .before .before .before .args) .s .now) ((c .before .before .before .before .before .before .before .before .before .before .before .before .before .before .before .before .before .before .before .before .before .before .before .before .before .before .before .before .before .before .before .before .before .args) .p) ((c .before .before .before .before .before .before .before .before .before .before .before .before .before .before .before .before .before .before .before .before .before .before .before .before .before .before .before .before .before .before .if1) .left) ∙ script-is (λ q. parseNode (((c .before .before .before .before .before .before .before .before .before .before .before .before .before .before .before .before .before .before .before .before .before .before .before .before .before .before .before .before .before .before .before .before .before .args) .depth) - 1) ((c .before .before .before .before .before .before .before .before .before .before .before .before .before .before .before .before .before .before .before .before .before .before .before .before .before .before .before .before .before .before .before .before .before .args) .s .now) q) (λ q. parseSingleNode (((c .before .before .before .before .before .before .before .before .before .before .before .before .before .before .before .before .before .before .before .before .before .before .before .before .before .before .before .before .before .before .before .before .before .args) .depth) - 1) ((c .before .before .before .before .before .before .before .before .before .before .before .before .before .before .before .before .before .before .before .before .before .before .before .before .before .before .before .before .before .before .before .before .before .args) .s .now) q) ((c .before .before .before .before .before .before .before .before .before .before .before .before .before .before .before .before .before .before .before .before .before .before .before .before .before .before .before .before .before .before .before .before .before .args) .s .now) ((c .before .before .before .before .before .before .before .before .before .before .before .before .before .before .before .before .before .before .before .before .before .before .before .before .before .before .before .before .before .before .before .before .before .args) .p) (g .is) ((c .before .before .before .before .before .before .before .before .before .before .before .before .before .before .before .over) .given .0 .0) (sym ((c .before .before .before .before .before .before .before .before .before .before .before .before .before .before .before .before .before .script-of) .ensures) ∙ (c .before .before .before .before .before .before .before .before .before .before .before .before .before .before .before .over) .given .1) ((c .before .before .before .before .before .before .before .before .before .before .before .before .before .next-token) .ensures) ((c .before .before .before .before .before .before .before .before .before .before .before .before .next-token2) .ensures) (h .is))
 
 parse-one-next-token-requires : (t : ℕ) → parse-one-lts.Need-next-token-requires (parse-one-calls t) (parse-one-at t) parse-one.Post
 parse-one-next-token-requires t c κs = (c .before .before .pre) .1 .0 .sound .peek .inside
@@ -1922,6 +1940,11 @@ pub +parse-bare+parse-begin+parse-brace+parse-group+parse-left+parse-lim+parse-l
     (parse-node-at t)
     parse-node.Post
     (parse-node-returns t)
+    (parse-node-stands-alone-requires t)
+    (parse-node-leaf-of-requires t)
+    (parse-node-make-leaf-requires t)
+    (parse-node-same-length t)
+    (parse-node-returns-2 t)
     (parse-node-sub-parse-single-node t)
     (parse-node-parse-single-node-requires t)
     (parse-node-enum-known-r t)
@@ -1937,14 +1960,14 @@ pub +parse-bare+parse-begin+parse-brace+parse-group+parse-left+parse-lim+parse-l
     (parse-node-enum-known-right t)
     (parse-node-script-kind-requires t)
     (parse-node-make-two-requires t)
-    (parse-node-same-length t)
-    (parse-node-returns-2 t)
     (parse-node-same-length-2 t)
     (parse-node-returns-3 t)
     (parse-node-same-length-3 t)
     (parse-node-returns-4 t)
     (parse-node-same-length-4 t)
-    (parse-node-returns-5 t))
+    (parse-node-returns-5 t)
+    (parse-node-same-length-5 t)
+    (parse-node-returns-6 t))
     (λ t. parse-one-lts.spec (parse-one-calls t)
     (parse-one-at t)
     parse-one.Post

@@ -1,0 +1,494 @@
+//! The three operations at their limits: every number, every buffer afterwards, every line of document 01's list. The
+//! expected values are written by hand from document 01.
+
+mod lent;
+
+use host::Display::{self, Block, Inline};
+use lent::{body, paged, raw_body, raw_page, raw_replacement, replacement, Sizes, AMPLE, NOTHING};
+
+fn block(markup: &str) -> Vec<u8> {
+    let open = r#"<math xmlns="http://www.w3.org/1998/Math/MathML" display="block">"#;
+    [open, markup, "</math>"].concat().into_bytes()
+}
+
+fn inline(markup: &str) -> Vec<u8> {
+    let open = r#"<math xmlns="http://www.w3.org/1998/Math/MathML" display="inline">"#;
+    [open, markup, "</math>"].concat().into_bytes()
+}
+
+fn wrapped(markup: &str, display: Display) -> Vec<u8> {
+    match display {
+        Block => block(markup),
+        Inline => inline(markup),
+    }
+}
+
+fn output(output: usize) -> Sizes {
+    Sizes { output, ..AMPLE }
+}
+
+fn store(store: usize) -> Sizes {
+    Sizes { store, ..AMPLE }
+}
+
+fn work(work: usize) -> Sizes {
+    Sizes { work, ..AMPLE }
+}
+
+fn braces(pairs: usize) -> String {
+    ["{".repeat(pairs), "a".into(), "}".repeat(pairs)].concat()
+}
+
+fn powers(count: usize) -> String {
+    ["x", &"^x".repeat(count)].concat()
+}
+
+/// A body for each number that parsing meets.
+fn parsing() -> Vec<(u32, String)> {
+    vec![
+        (6, "{".into()),
+        (7, r"\left{a\right)".into()),
+        (8, r"\begin{q}a\end{q}".into()),
+        (9, r"\middle a".into()),
+        (10, braces(128)),
+    ]
+}
+
+// ---- the list of document 01
+
+#[test]
+fn the_lines_of_document_01() {
+    let lines = [
+        ("", ""),
+        (r"\frac123", "<mfrac><mn>1</mn><mn>23</mn></mfrac>"),
+        (
+            r"\frac 123",
+            r#"<mfrac><mn>123</mn><mtext>[PARSE ERROR: Undefined("EOF")]</mtext></mfrac>"#,
+        ),
+        ("x_a^b", "<msub><mi>x</mi><msup><mi>a</mi><mi>b</mi></msup></msub>"),
+        ("a''", "<msup><mi>a</mi><mo>′</mo></msup><mo>'</mo>"),
+        (r"\sum^n", r#"<mover><mi>n</mi><mo accent="false">∑</mo></mover>"#),
+        (
+            r"\",
+            r#"<mtext>[PARSE ERROR: Undefined("Command(\"\\0\")")]</mtext>"#,
+        ),
+        (
+            r"\begin{align}a&b\end{q}",
+            "<mtable columnalign=left><mtr><mtd><mi>a</mi></mtd><mtd><mi>b</mi></mtd></mtr></mtable>",
+        ),
+        (
+            "x_\0b",
+            r#"<msub><mi>x</mi><mtext>[PARSE ERROR: Undefined("EOF")]</mtext></msub><mi>b</mi>"#,
+        ),
+    ];
+    for (latex, markup) in lines {
+        for display in [Block, Inline] {
+            body(
+                latex.as_bytes(),
+                display,
+                AMPLE,
+                Ok(&wrapped(markup, display)),
+            );
+        }
+    }
+}
+
+#[test]
+fn the_refused_lines_of_document_01() {
+    for (latex, number) in [("{", 6), (r"\left{a\right)", 7), (r"\middle a", 9)] {
+        body(latex.as_bytes(), Block, AMPLE, Err(number));
+        body(latex.as_bytes(), Inline, AMPLE, Err(number));
+    }
+    replacement(b"$$$", AMPLE, Err(5), None);
+    replacement(b"$$$$", AMPLE, Err(4), None);
+    let text = block(r#"<mi>a</mi><mi mathvariant="normal">$</mi><mi>b</mi>"#);
+    replacement(b"$$a$b$$", AMPLE, Err(4), Some(&text));
+}
+
+#[test]
+fn the_depth_lines_of_document_01() {
+    body(
+        braces(127).as_bytes(),
+        Block,
+        AMPLE,
+        Ok(&block("<mi>a</mi>")),
+    );
+    body(braces(128).as_bytes(), Block, AMPLE, Err(10));
+    let open = "<msup><mi>x</mi>".repeat(254);
+    let close = "</msup>".repeat(254);
+    let markup = inline(&[&open, "<mi>x</mi>", &close].concat());
+    body(powers(254).as_bytes(), Inline, AMPLE, Ok(&markup));
+    body(powers(255).as_bytes(), Inline, AMPLE, Err(10));
+}
+
+#[test]
+fn the_page_of_document_01() {
+    let markup = inline("<mi>x</mi>");
+    let want = [b"a$$$\n\n", &markup[..]].concat();
+    let program = Sizes {
+        store: 61_440,
+        ..AMPLE
+    };
+    paged(b"a$$$\n\n$x$", program, Ok((&want, 2, 1)));
+}
+
+// ---- body translation
+
+#[test]
+fn body_1_behind_4096_bytes() {
+    let markup = block(&"<mi>a</mi>".repeat(4_096));
+    body(&[b'a'; 4_096], Block, AMPLE, Ok(&markup));
+    body(&[b'a'; 4_097], Block, AMPLE, Err(1));
+    body(&[b'a'; 4_097], Block, NOTHING, Err(1));
+    body(&[0xFF; 4_097], Inline, AMPLE, Err(1));
+}
+
+#[test]
+fn body_2_ill_formed() {
+    let ill: [&[u8]; 8] = [
+        b"\x80",
+        b"a\xFF",
+        b"\xC0\xAF",
+        b"\xE0\x80\x80",
+        b"\xE2\x88",
+        b"\xED\xA0\x80",
+        b"\xF4\x90\x80\x80",
+        b"\xF8\x88\x80\x80\x80",
+    ];
+    for latex in ill {
+        body(latex, Block, AMPLE, Err(2));
+        body(latex, Inline, NOTHING, Err(2));
+    }
+    let markup = block("<mi mathvariant=\"normal\">\u{10FFFF}</mi>");
+    body("\u{10FFFF}".as_bytes(), Block, AMPLE, Ok(&markup));
+}
+
+#[test]
+fn body_3_a_store_one_byte_short() {
+    body(b"a", Block, store(47), Err(3));
+    body(b"a", Block, store(48), Ok(&block("<mi>a</mi>")));
+    body(b"abc", Inline, store(143), Err(3));
+    let markup = inline("<mi>a</mi><mi>b</mi><mi>c</mi>");
+    body(b"abc", Inline, store(144), Ok(&markup));
+    body(b"abc", Inline, store(145), Ok(&markup));
+    body(b"{", Block, store(47), Err(3));
+    body(&[b'a'; 4_096], Block, store(196_607), Err(3));
+}
+
+#[test]
+fn body_6_to_10_while_parsing() {
+    for (number, latex) in parsing() {
+        body(latex.as_bytes(), Block, AMPLE, Err(number));
+        body(latex.as_bytes(), Inline, output(0), Err(number));
+    }
+    body(br"\bigl a", Block, AMPLE, Err(6));
+    body(br"\left(a\right a", Block, AMPLE, Err(7));
+}
+
+#[test]
+fn body_the_first_met_while_parsing() {
+    body(br"\begin{q}{\end{q}", Block, AMPLE, Err(6));
+    body(br"\middle{", Block, AMPLE, Err(6));
+    body(br"\middle a{", Block, AMPLE, Err(9));
+    body(br"\left a\middle a", Block, AMPLE, Err(7));
+}
+
+#[test]
+fn body_12_an_output_one_byte_short() {
+    body(b"", Block, output(72), Ok(&block("")));
+    body(b"", Block, output(71), Err(12));
+    body(b"", Inline, output(73), Ok(&inline("")));
+    body(b"", Inline, output(72), Err(12));
+    body(b"a", Block, output(82), Ok(&block("<mi>a</mi>")));
+    body(b"a", Block, output(81), Err(12));
+}
+
+#[test]
+fn body_with_nothing_lent() {
+    body(b"", Block, NOTHING, Err(12));
+    body(b"a", Block, NOTHING, Err(3));
+    let only_output = Sizes {
+        output: 73,
+        ..NOTHING
+    };
+    body(b"", Inline, only_output, Ok(&inline("")));
+}
+
+// ---- replacement
+
+#[test]
+fn replacement_1_behind_32768_bytes() {
+    let text = [b'a'; 32_769];
+    replacement(
+        &text[..32_768],
+        AMPLE,
+        Ok(&text[..32_768]),
+        Some(&text[..32_768]),
+    );
+    replacement(&text, AMPLE, Err(1), None);
+    replacement(&text, NOTHING, Err(1), None);
+    replacement(&[0xFF; 32_769], AMPLE, Err(1), None);
+}
+
+#[test]
+fn replacement_1_a_body_of_4097_bytes() {
+    let double = ["$$", &"a".repeat(4_097), "$$"].concat();
+    replacement(double.as_bytes(), AMPLE, Err(1), None);
+    let single = ["$", &"a".repeat(4_097), "$"].concat();
+    replacement(single.as_bytes(), AMPLE, Err(1), Some(single.as_bytes()));
+    let fits = ["$", &"a".repeat(4_096), "$"].concat();
+    let markup = inline(&"<mi>a</mi>".repeat(4_096));
+    replacement(fits.as_bytes(), AMPLE, Ok(&markup), Some(fits.as_bytes()));
+}
+
+#[test]
+fn replacement_2_before_the_dollars() {
+    replacement(b"\xFF", AMPLE, Err(2), None);
+    replacement(b"\xFF$$$$", AMPLE, Err(2), None);
+    replacement(b"$\xE2\x88$", NOTHING, Err(2), None);
+}
+
+#[test]
+fn replacement_3_in_each_pass() {
+    replacement(b"$$a$$", store(47), Err(3), None);
+    replacement(b"$a$", store(47), Err(3), Some(b"$a$"));
+    let markup = inline("<mi>a</mi>");
+    replacement(b"$a$", store(48), Ok(&markup), Some(b"$a$"));
+    let text = block("<mi>a</mi>");
+    replacement(b"$$a$$", store(48), Ok(&text), Some(&text));
+}
+
+#[test]
+fn replacement_4_in_each_pass() {
+    replacement(b"$$a", AMPLE, Err(4), None);
+    replacement(b"$$$$", NOTHING, Err(4), None);
+    replacement(b"$$a$$$", AMPLE, Err(4), None);
+    replacement(b"$", AMPLE, Err(4), Some(b"$"));
+    replacement(b"a$b$c$", output(0), Err(4), Some(b"a$b$c$"));
+}
+
+#[test]
+fn replacement_5_before_every_body() {
+    replacement(b"$$$", NOTHING, Err(5), None);
+    replacement(b"$${$$a$$$", AMPLE, Err(5), None);
+    replacement(b"$$a$$$b$$", AMPLE, Err(5), None);
+}
+
+#[test]
+fn replacement_6_to_10_in_each_pass() {
+    for (number, latex) in parsing() {
+        let double = ["a$$", &latex, "$$"].concat();
+        replacement(double.as_bytes(), AMPLE, Err(number), None);
+        replacement(double.as_bytes(), work(0), Err(number), None);
+        let single = ["a$", &latex, "$"].concat();
+        replacement(
+            single.as_bytes(),
+            AMPLE,
+            Err(number),
+            Some(single.as_bytes()),
+        );
+        replacement(
+            single.as_bytes(),
+            output(0),
+            Err(number),
+            Some(single.as_bytes()),
+        );
+    }
+}
+
+#[test]
+fn replacement_the_first_body_that_is_refused() {
+    replacement(br"$${$$ $$\middle a$$", AMPLE, Err(6), None);
+    replacement(br"$$\middle a$$ $${$$", AMPLE, Err(9), None);
+    replacement(br"${$ $$\middle a$$", AMPLE, Err(9), None);
+    let text = [b"${$ ", &block("<mi>a</mi>")[..]].concat();
+    replacement(b"${$ $$a$$", AMPLE, Err(6), Some(&text));
+}
+
+#[test]
+fn replacement_11_before_pass_two() {
+    replacement(b"abc", work(2), Err(11), None);
+    replacement(b"abc", work(3), Ok(b"abc"), Some(b"abc"));
+    replacement(b"$", work(0), Err(11), None);
+    replacement(b"${$", work(2), Err(11), None);
+    let text = block("<mi>a</mi>");
+    replacement(b"$$a$$", work(81), Err(11), None);
+    replacement(b"$$a$$", work(82), Ok(&text), Some(&text));
+    let none = Sizes {
+        output: 0,
+        ..work(2)
+    };
+    replacement(b"abc", none, Err(11), None);
+}
+
+#[test]
+fn replacement_12_last() {
+    replacement(b"abc", output(2), Err(12), Some(b"abc"));
+    replacement(b"abc", output(3), Ok(b"abc"), Some(b"abc"));
+    let markup = inline("<mi>a</mi>");
+    replacement(b"$a$", output(82), Err(12), Some(b"$a$"));
+    replacement(b"$a$", output(83), Ok(&markup), Some(b"$a$"));
+}
+
+#[test]
+fn replacement_with_nothing_lent() {
+    replacement(b"", NOTHING, Ok(b""), Some(b""));
+    replacement(b"a", NOTHING, Err(11), None);
+    replacement(b"$$a$$", NOTHING, Err(3), None);
+}
+
+#[test]
+fn replacement_both_passes() {
+    let text = [b"a ", &block("<mi>x</mi>")[..], b" $y$ b"].concat();
+    let parts = [
+        b"a ",
+        &block("<mi>x</mi>")[..],
+        b" ",
+        &inline("<mi>y</mi>"),
+        b" b",
+    ];
+    replacement(b"a $$x$$ $y$ b", AMPLE, Ok(&parts.concat()), Some(&text));
+}
+
+#[test]
+fn replacement_counts_the_dollars_that_pass_one_prints() {
+    let text = block(r#"<mi mathvariant="normal">$</mi>"#);
+    replacement(br"$$\$$$", AMPLE, Err(4), None);
+    replacement(br"$$\$ $$", AMPLE, Err(4), Some(&text));
+}
+
+// ---- page
+
+/// A paragraph for each number that a replacement can meet but 12, and what must be lent to meet it beside `$x$`.
+fn left() -> Vec<(u32, Vec<u8>, Sizes)> {
+    let mut cases = vec![
+        (
+            1,
+            ["$", &"a".repeat(4_097), "$"].concat().into_bytes(),
+            AMPLE,
+        ),
+        (2, b"a\xFFb".to_vec(), AMPLE),
+        (3, b"$ab$".to_vec(), store(95)),
+        (4, b"90$".to_vec(), AMPLE),
+        (4, b"$$a".to_vec(), AMPLE),
+        (5, b"a$$$".to_vec(), AMPLE),
+        (11, b"$$a$$".to_vec(), work(81)),
+    ];
+    for (number, latex) in parsing() {
+        cases.push((number, ["$", &latex, "$"].concat().into_bytes(), AMPLE));
+        cases.push((number, ["$$", &latex, "$$"].concat().into_bytes(), AMPLE));
+    }
+    cases
+}
+
+#[test]
+fn page_leaves_a_paragraph_refused_by_any_number_but_12() {
+    let markup = inline("<mi>x</mi>");
+    let mut met = Vec::new();
+    for (number, text, sizes) in left() {
+        let alone = lent::raw_replacement(&text, sizes);
+        assert_eq!(alone.number, number, "{}", String::from_utf8_lossy(&text));
+        met.push(number);
+        let before = [&text[..], b"\n\n$x$"].concat();
+        let want = [&text[..], b"\n\n", &markup].concat();
+        paged(&before, sizes, Ok((&want, 2, 1)));
+        let between = [b"$x$\n\n\n", &text[..], b"\n\n$x$"].concat();
+        let want = [&markup[..], b"\n\n\n", &text, b"\n\n", &markup].concat();
+        paged(&between, sizes, Ok((&want, 3, 1)));
+    }
+    met.sort_unstable();
+    met.dedup();
+    assert_eq!(met, [1, 2, 3, 4, 5, 6, 7, 8, 9, 10, 11]);
+}
+
+#[test]
+fn page_1_behind_32768_bytes() {
+    let text = [b'a'; 32_769];
+    paged(&text[..32_768], AMPLE, Ok((&text[..32_768], 1, 0)));
+    paged(&text, AMPLE, Err(1));
+    paged(&text, NOTHING, Err(1));
+}
+
+#[test]
+fn page_12_an_output_one_byte_short() {
+    let want = [b"a$$$\n\n", &inline("<mi>x</mi>")[..]].concat();
+    paged(b"a$$$\n\n$x$", output(89), Ok((&want, 2, 1)));
+    paged(b"a$$$\n\n$x$", output(88), Err(12));
+    paged(b"$x$", output(10), Err(12));
+    paged(b"\n\n", output(1), Err(12));
+    paged(&[b'a'; 32_768], output(32_767), Err(12));
+}
+
+#[test]
+fn page_longer_than_the_usual_output() {
+    let one = inline(&"<mi>a</mi>".repeat(2_000));
+    let source = ["$", &"a".repeat(2_000), "$\n\n"].concat().repeat(9);
+    let want = [&one[..], b"\n\n"].concat().repeat(9);
+    paged(source.as_bytes(), output(want.len()), Ok((&want, 10, 0)));
+    paged(source.as_bytes(), output(want.len() - 1), Err(12));
+}
+
+#[test]
+fn page_counts() {
+    paged(b"", AMPLE, Ok((b"", 1, 0)));
+    paged(b"\n", AMPLE, Ok((b"\n", 1, 0)));
+    paged(b"\n\n", AMPLE, Ok((b"\n\n", 2, 0)));
+    paged(b"\n\n\n\n\n", AMPLE, Ok((b"\n\n\n\n\n", 2, 0)));
+    paged(b"a\nb", AMPLE, Ok((b"a\nb", 1, 0)));
+    paged(b"\n\n$\n\n\n$\n\n", AMPLE, Ok((b"\n\n$\n\n\n$\n\n", 4, 2)));
+    let prose = b"a\n\n".repeat(10_922);
+    paged(&prose, AMPLE, Ok((&prose, 10_923, 0)));
+    let stray = b"$\n\n".repeat(10_922);
+    paged(&stray, AMPLE, Ok((&stray, 10_923, 10_922)));
+}
+
+#[test]
+fn page_with_nothing_lent() {
+    paged(b"", NOTHING, Ok((b"", 1, 0)));
+    paged(b"a", NOTHING, Err(12));
+    let only_output = Sizes {
+        output: 7,
+        ..NOTHING
+    };
+    paged(b"abc\n\n$$", only_output, Ok((b"abc\n\n$$", 2, 2)));
+    paged(b"abc\n\n", only_output, Ok((b"abc\n\n", 2, 1)));
+}
+
+// ---- what is written through the references
+
+#[test]
+fn a_refusal_returns_length_0() {
+    for (number, latex) in parsing() {
+        let got = raw_body(latex.as_bytes(), AMPLE);
+        assert_eq!((got.number, got.length), (number, 0));
+    }
+    for (number, latex, sizes) in left() {
+        let got = raw_replacement(&latex, sizes);
+        assert_eq!((got.number, got.length), (number, 0));
+    }
+    let got = raw_body(b"", output(71));
+    assert_eq!((got.number, got.length), (12, 0));
+    let got = raw_replacement(b"abc", output(2));
+    assert_eq!((got.number, got.length), (12, 0));
+}
+
+#[test]
+fn a_refused_page_returns_0_for_both_counts() {
+    let got = raw_page(&[b'\n'; 32_769], AMPLE);
+    let returned = (got.number, got.length, got.paragraphs, got.refused);
+    assert_eq!(returned, (1, 0, 0, 0));
+    let got = raw_page(b"a$$$\n\n$x$", output(88));
+    let returned = (got.number, got.length, got.paragraphs, got.refused);
+    assert_eq!(returned, (12, 0, 0, 0));
+}
+
+#[test]
+fn an_acceptance_returns_0_and_the_length() {
+    let got = raw_body(b"", AMPLE);
+    assert_eq!((got.number, got.length), (0, 72));
+    let got = raw_replacement(b"a", AMPLE);
+    assert_eq!((got.number, got.length), (0, 1));
+    let got = raw_page(b"a$$$\n\n$x$", AMPLE);
+    let returned = (got.number, got.length, got.paragraphs, got.refused);
+    assert_eq!(returned, (0, 89, 2, 1));
+}
