@@ -1,0 +1,324 @@
+//! The expected answers: the crate's where it decides, and document 01's order of refusals around them.
+
+use crate::case::{Lent, Operation};
+use crate::compare::shown;
+use crate::paragraphs::pieces;
+use crate::{depth, oracle};
+use std::collections::HashMap;
+use std::rc::Rc;
+
+const BODY_LIMIT: usize = 4_096;
+const DOCUMENT_LIMIT: usize = 32_768;
+const RECORD: usize = 24;
+
+/// What an operation is expected to return and to leave in the lent buffers.
+#[derive(Default)]
+pub struct Expected {
+    pub number: u32,
+    pub output: Vec<u8>,
+    /// What the work buffer begins with afterwards; a page's is free.
+    pub work: Vec<u8>,
+    pub paragraphs: u64,
+    pub left: u64,
+}
+
+impl Expected {
+    /// The answer in words, for a report.
+    pub fn describe(&self) -> String {
+        format!(
+            "number {}, length {}, paragraphs {}, left {}, output \"{}\"",
+            self.number,
+            self.output.len(),
+            self.paragraphs,
+            self.left,
+            shown(&self.output[..self.output.len().min(400)])
+        )
+    }
+}
+
+struct Body {
+    answer: oracle::Answer,
+    /// Whether document 01 and not the crate decides the answer.
+    ours: bool,
+}
+
+/// Answers for one case at a time; bodies are kept, since a case asks for them more than once.
+#[derive(Default)]
+pub struct Reckoner {
+    bodies: HashMap<(bool, String), Rc<Body>>,
+    needed: Option<Lent>,
+    ours: bool,
+    /// Where this reckoning itself and the crate disagree.
+    pub faults: Vec<String>,
+    /// Bodies in which an escape was undone.
+    pub undone: u64,
+    /// Documents and paragraphs that the crate's own `replace` confirmed.
+    pub confirmed: u64,
+}
+
+/// Undoes the one escape that document 01 leaves out: a character of 128 or above as the name of an unknown command.
+fn undo_escapes(markup: &str) -> String {
+    const OPEN: &str = "Command(\\\"\\\\u{";
+    let mut text = String::with_capacity(markup.len());
+    let mut rest = markup;
+    while let Some(at) = rest.find(OPEN) {
+        let digits = &rest[at + OPEN.len()..];
+        let end = digits.find('}').unwrap_or(0);
+        let code = u32::from_str_radix(&digits[..end], 16).unwrap_or(0);
+        match char::from_u32(code) {
+            Some(c) if code >= 128 => {
+                text.push_str(&rest[..at]);
+                text.push_str("Command(\\\"");
+                text.push(c);
+                rest = &digits[end + 1..];
+            }
+            _ => {
+                text.push_str(&rest[..at + OPEN.len()]);
+                rest = digits;
+            }
+        }
+    }
+    text.push_str(rest);
+    text
+}
+
+fn refused(number: u32) -> Expected {
+    Expected {
+        number,
+        ..Expected::default()
+    }
+}
+
+/// Where the windows of as many dollars begin, overlapping ones too.
+fn dollars(text: &str, width: usize) -> Vec<usize> {
+    let windows = text.as_bytes().windows(width).enumerate();
+    let full = windows.filter(|(_, window)| window.iter().all(|&byte| byte == b'$'));
+    full.map(|(at, _)| at).collect()
+}
+
+impl Reckoner {
+    /// What the operation needs; without limits of what is lent the crate's `replace` is asked as well.
+    pub fn needed(&mut self, operation: Operation, input: &[u8]) -> Lent {
+        self.bodies.clear();
+        self.needed = Some(Lent::NOTHING);
+        let expected = self.expected(operation, input, Lent::UNLIMITED);
+        let mut needed = self.needed.take().unwrap_or(Lent::NOTHING);
+        needed.output = expected.output.len();
+        needed
+    }
+
+    pub fn expected(&mut self, operation: Operation, input: &[u8], lent: Lent) -> Expected {
+        match operation {
+            Operation::Body { block } => self.translate(input, block, lent),
+            Operation::Replacement => self.replace(input, lent),
+            Operation::Page => self.page(input, lent),
+        }
+    }
+
+    fn ask(&mut self, latex: &str, block: bool) -> Body {
+        let counted = depth::number(latex);
+        if counted == 10 {
+            return Body {
+                answer: Err(10),
+                ours: true,
+            };
+        }
+        let answer = oracle::translate(latex, block);
+        let number = answer.as_ref().err().copied().unwrap_or(0);
+        if number != counted {
+            let body = latex.escape_debug();
+            let fault = format!("body \"{body}\": counted {counted}, the crate {number}");
+            self.faults.push(fault);
+        }
+        match answer {
+            Ok(markup) => {
+                let text = undo_escapes(&markup);
+                let ours = text != markup;
+                self.undone += u64::from(ours);
+                Body {
+                    answer: Ok(text),
+                    ours,
+                }
+            }
+            Err(_) => Body {
+                answer,
+                ours: false,
+            },
+        }
+    }
+
+    /// A body that is well formed: 1, 3, then the parser's refusals.
+    fn body(&mut self, latex: &str, block: bool, store: usize) -> Result<Rc<Body>, u32> {
+        if latex.len() > BODY_LIMIT {
+            self.ours = true;
+            return Err(1);
+        }
+        if let Some(needed) = &mut self.needed {
+            needed.store = needed.store.max(2 * latex.len() * RECORD);
+        }
+        if store / RECORD < 2 * latex.len() {
+            return Err(3);
+        }
+        let key = (block, latex.to_owned());
+        let body = match self.bodies.get(&key) {
+            Some(body) => body.clone(),
+            None => {
+                let body = Rc::new(self.ask(latex, block));
+                self.bodies.insert(key, body.clone());
+                body
+            }
+        };
+        self.ours |= body.ours;
+        match body.answer {
+            Ok(_) => Ok(body),
+            Err(number) => Err(number),
+        }
+    }
+
+    fn translate(&mut self, latex: &[u8], block: bool, lent: Lent) -> Expected {
+        if latex.len() > BODY_LIMIT {
+            return refused(1);
+        }
+        let Ok(latex) = std::str::from_utf8(latex) else {
+            return refused(2);
+        };
+        let body = match self.body(latex, block, lent.store) {
+            Ok(body) => body,
+            Err(number) => return refused(number),
+        };
+        let markup = body.answer.as_deref().unwrap_or_default();
+        if markup.len() > lent.output {
+            return refused(12);
+        }
+        Expected {
+            output: markup.as_bytes().to_vec(),
+            ..Expected::default()
+        }
+    }
+
+    /// Translates the bodies between the marks, taken first with second, third with fourth.
+    fn substitute(
+        &mut self,
+        text: &str,
+        marks: &[usize],
+        width: usize,
+        store: usize,
+    ) -> Result<String, u32> {
+        let mut result = String::new();
+        let mut from = 0;
+        for pair in marks.chunks_exact(2) {
+            result.push_str(&text[from..pair[0]]);
+            let body = self.body(&text[pair[0] + width..pair[1]], width == 2, store)?;
+            result.push_str(body.answer.as_deref().unwrap_or_default());
+            from = pair[1] + width;
+        }
+        result.push_str(&text[from..]);
+        Ok(result)
+    }
+
+    fn first_pass(&mut self, document: &str, store: usize) -> Result<String, u32> {
+        let windows = dollars(document, 2);
+        if windows.len() % 2 != 0 {
+            return Err(4);
+        }
+        if document.contains("$$$") {
+            self.ours = true;
+            return Err(5);
+        }
+        self.substitute(document, &windows, 2, store)
+    }
+
+    fn second_pass(&mut self, text: &str, store: usize) -> Result<String, u32> {
+        let marks = dollars(text, 1);
+        if marks.len() % 2 != 0 {
+            return Err(4);
+        }
+        self.substitute(text, &marks, 1, store)
+    }
+
+    fn replace(&mut self, document: &[u8], lent: Lent) -> Expected {
+        if document.len() > DOCUMENT_LIMIT {
+            return refused(1);
+        }
+        let Ok(document) = std::str::from_utf8(document) else {
+            return refused(2);
+        };
+        self.ours = false;
+        let expected = self.two_passes(document, lent);
+        if self.needed.is_some() && !self.ours {
+            self.confirm(document, &expected);
+        }
+        expected
+    }
+
+    fn two_passes(&mut self, document: &str, lent: Lent) -> Expected {
+        let first = match self.first_pass(document, lent.store) {
+            Ok(text) => text,
+            Err(number) => return refused(number),
+        };
+        if let Some(needed) = &mut self.needed {
+            needed.work = needed.work.max(first.len());
+        }
+        if first.len() > lent.work {
+            return refused(11);
+        }
+        let second = self.second_pass(&first, lent.store);
+        let (number, output) = match second {
+            Ok(text) if text.len() > lent.output => (12, String::new()),
+            Ok(text) => (0, text),
+            Err(number) => (number, String::new()),
+        };
+        Expected {
+            number,
+            output: output.into_bytes(),
+            work: first.into_bytes(),
+            ..Expected::default()
+        }
+    }
+
+    /// Holds this reckoning to the crate's own `replace` where the crate decides.
+    fn confirm(&mut self, document: &str, expected: &Expected) {
+        self.confirmed += 1;
+        let agree = match oracle::replace(document) {
+            Ok(text) => expected.number == 0 && text.as_bytes() == expected.output,
+            Err(number) => expected.number == number,
+        };
+        if !agree {
+            let document = document.escape_debug();
+            let fault = format!(
+                "document \"{document}\": reckoned {}, the crate another",
+                expected.number
+            );
+            self.faults.push(fault);
+        }
+    }
+
+    fn page(&mut self, document: &[u8], lent: Lent) -> Expected {
+        if document.len() > DOCUMENT_LIMIT {
+            return refused(1);
+        }
+        let unlimited = Lent {
+            output: usize::MAX,
+            ..lent
+        };
+        let mut page = Expected::default();
+        for (turn, piece) in pieces(document).into_iter().enumerate() {
+            if turn % 2 == 1 {
+                page.output.extend_from_slice(piece);
+                continue;
+            }
+            page.paragraphs += 1;
+            let replaced = self.replace(piece, unlimited);
+            if replaced.number == 0 {
+                page.output.extend_from_slice(&replaced.output);
+            } else {
+                page.left += 1;
+                page.output.extend_from_slice(piece);
+            }
+        }
+        if page.output.len() > lent.output {
+            return refused(12);
+        }
+        page
+    }
+}
