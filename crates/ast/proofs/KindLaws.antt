@@ -1,4 +1,4 @@
--- What node the record of a held tree is.
+-- What node the record of a held tree is, and its role.
 -- Assumes nothing.
 use mathlib.Core.Path.{_≡_, ap, _∙_}
 use mathlib.Core.List.{List}
@@ -6,7 +6,8 @@ use Prim.Native.Nat.{ℕ}
 use Rattle.text.proofs.Cases.{never}
 use Rattle.ast.specs.declared.Leaf.{Leaf}
 use Rattle.ast.specs.declared.Shape.{Shape}
-use Rattle.ast.specs.Shape.{fields, fieldsOf, shapeOf}
+use Rattle.ast.specs.declared.Role.{Role}
+use Rattle.ast.specs.Shape.{fields, fieldsOf, shapeOf, leafRole, roleOf}
 use Rattle.ast.specs.Store.{recordAt}
 use Rattle.ast.specs.Tree.{Node, leaf, one, two, three, row, matrix}
 use Rattle.ast.specs.Held.{count, holds}
@@ -34,11 +35,22 @@ kind-held st lo i (matrix align ns) h = h .1 .stands .kind
 pub shape-held : (st : List ℕ) (lo i : ℕ) (t : Node) → holds st lo i t → shapeOf (fieldsOf (recordAt st i)) ≡ kindOf t
 shape-held st lo i t h = ap (λ f. shapeOf f) (kind-held st lo i t h) ∙ shape-back (kindOf t)
 
--- a tree whose kind is a leaf's is that leaf
-pub leaf-of : (t : Node) (l : Leaf) → kindOf t ≡ Shape.Leaf l → t ≡ leaf l
-leaf-of (leaf m) l e = let q : m ≡ l = cc in ap (λ n. leaf n) q
-leaf-of (one k a) l e = never cc
-leaf-of (two k a b) l e = never cc
-leaf-of (three k a b c) l e = never cc
-leaf-of (row ns) l e = never cc
-leaf-of (matrix align ns) l e = never cc
+-- .. and so is the role
+pub role-held : (st : List ℕ) (lo i : ℕ) (t : Node) → holds st lo i t → roleOf (shapeOf (fieldsOf (recordAt st i))) ≡ roleOf (kindOf t)
+role-held st lo i t h = ap (λ k. roleOf k) (shape-held st lo i t h)
+
+-- no leaf has the role of a row
+pub leaf-no-row : (l : Leaf) (n : ℕ) → leafRole l ≡ Role.Row n → ⊥
+leaf-no-row (Leaf.Number a e) n h = never cc
+leaf-no-row (Leaf.Letter c v) n h = never cc
+leaf-no-row (Leaf.Operator c) n h = never cc
+leaf-no-row (Leaf.Function t) n h = never cc
+leaf-no-row (Leaf.FunctionName a e) n h = never cc
+leaf-no-row (Leaf.Space w) n h = never cc
+leaf-no-row (Leaf.StrechedOp o) n h = never cc
+leaf-no-row (Leaf.OtherOperator t) n h = never cc
+leaf-no-row (Leaf.SizedParen z t) n h = never cc
+leaf-no-row (Leaf.Text a e) n h = never cc
+leaf-no-row Leaf.Ampersand n h = never cc
+leaf-no-row Leaf.NewLine n h = never cc
+leaf-no-row (Leaf.Undefined u) n h = never cc

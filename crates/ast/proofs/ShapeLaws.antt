@@ -1,6 +1,11 @@
--- The node of a node's numbers is the node.
+-- The node of a node's numbers is the node, and the tags that have no role of their own.
 -- Assumes nothing.
 use mathlib.Core.Path.{_≡_, refl, ap}
+use mathlib.Core.List.{List, [], _∷_}
+use Prim.Native.Nat.{ℕ}
+use lib.ListN.{getD, List·getD-eq-default}
+use Rattle.text.proofs.Cases.{by-order}
+use Rattle.text.proofs.Keys.{NoneOf, elsewhere}
 use Rattle.attribute.proofs.CodeLaws.{variant-back, accent-back, thickness-back, align-back, display-back}
 use Rattle.token.specs.declared.Undefined.{Undefined}
 use Rattle.ast.specs.declared.Stretched.{Stretched}
@@ -9,7 +14,8 @@ use Rattle.ast.specs.declared.One.{One}
 use Rattle.ast.specs.declared.Two.{Two}
 use Rattle.ast.specs.declared.Three.{Three}
 use Rattle.ast.specs.declared.Shape.{Shape}
-use Rattle.ast.specs.Shape.{fields, shapes, shapeOf}
+use Rattle.ast.specs.declared.Role.{Role}
+use Rattle.ast.specs.Shape.{numbers, fields, shapes, matrixShape, shapeOf, roleOf}
 
 pub shape-back : (k : Shape) → shapeOf (fields k) ≡ k
 unfolding shapeOf shapes
@@ -50,3 +56,14 @@ shape-back (Shape.Three Three.SubSup) = refl
 shape-back (Shape.Three Three.UnderOver) = refl
 shape-back (Shape.Row n) = refl
 shape-back (Shape.Matrix align n) = ap (λ w. Shape.Matrix w n) (align-back align)
+
+-- the tags of a letter, of the operators and of a row, the last first
+abbrev pub roled : List ℕ
+roled = 35 ∷ 8 ∷ 2 ∷ 1 ∷ []
+
+pub other-role : (tag v x y : ℕ) → NoneOf roled tag → roleOf (shapeOf (numbers tag v x y)) ≡ Role.Other
+unfolding shapeOf shapes
+other-role tag v x y h =
+    by-order tag 36
+    (λ lt. elsewhere (λ n. roleOf (getD shapes n matrixShape v x y)) Role.Other roled 36 refl tag lt h)
+    (λ ge. ap (λ g. roleOf (g v x y)) (List·getD-eq-default shapes matrixShape ge))

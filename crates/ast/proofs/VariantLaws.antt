@@ -1,4 +1,4 @@
--- Setting the variant of a stored tree: a leaf, a node that keeps its parts, and the nodes of a row one by one.
+-- Setting the variant of a stored tree: a letter, a node that keeps its parts, and the nodes of a row one by one.
 -- Assumes nothing.
 use mathlib.Core.Path.{_≡_, refl, sym, ap, _∙_}
 use mathlib.Core.List.{List, [], _∷_}
@@ -8,72 +8,76 @@ use native.Mathlib.Nat.{le-refl}
 use lib.ListN.{length}
 use types.Run.{OneOf, miss}
 use denote.Enum.Declared.{tagOf}
+use Rattle.text.proofs.Cases.{never}
 use Rattle.attribute.specs.declared.Variant.{Variant}
+use Rattle.attribute.specs.Codes.{variantCode}
 use Rattle.ast.specs.declared.Leaf.{Leaf}
-use Rattle.ast.specs.declared.Shape.{Shape}
-use Rattle.ast.specs.Shape.{numbers, leafFields, fields, fieldsOf, shapeOf}
+use Rattle.ast.specs.declared.Role.{Role}
+use Rattle.ast.specs.Shape.{numbers, fieldsOf, shapeOf, leafRole, roleOf}
 use Rattle.ast.specs.Store.{recordAt, Put}
 use Rattle.ast.specs.Change.{withAttr}
 use Rattle.ast.specs.Tree.{Node, leaf, one, two, three, row, matrix, Nodes, empty, _then_, setLeaf, setVariant, setVariants}
 use Rattle.ast.specs.Held.{count, holds, holdsAll}
 use Rattle.ast.specs.Turned.{Stored, Turned, Sets, rowCount}
-use Rattle.ast.proofs.Leaf.{the-type as the-leaf}
-use Rattle.ast.proofs.Shape.{the-type as the-shape}
+use Rattle.ast.proofs.Role.{the-type as the-role}
 use Rattle.ast.proofs.HeldLaws.{same-but, stands-moved, low, low-all, frame, frame-all}
-use Rattle.ast.proofs.KindLaws.{kindOf, kind-held, shape-held, leaf-of}
+use Rattle.ast.proofs.KindLaws.{kindOf, role-held}
 
--- the places, among the enum's variants, of the leaves that are no letter, and of the shapes that are no leaf
+-- the places, among the enum's variants, of the roles that are no letter's
 abbrev pub unlettered : List ℕ
-unlettered = 0 ∷ 2 ∷ 3 ∷ 4 ∷ 5 ∷ 6 ∷ 7 ∷ 8 ∷ 9 ∷ 10 ∷ 11 ∷ 12 ∷ []
+unlettered = 1 ∷ 2 ∷ 3 ∷ 4 ∷ []
 
-abbrev pub parted : List ℕ
-parted = 1 ∷ 2 ∷ 3 ∷ 4 ∷ 5 ∷ []
-
--- a leaf that is no letter stays as it is
-leaf-stays : (v : Variant) (l : Leaf) → OneOf unlettered (tagOf the-leaf l) → setLeaf v l ≡ l
+-- a leaf that is no letter stays as it is, and has no nodes
+still-leaf : (v : Variant) (l : Leaf) → OneOf unlettered (tagOf the-role (leafRole l)) → (setLeaf v l ≡ l) × (rowCount (leafRole l) ≡ 0)
 unfolding setLeaf
-leaf-stays v (Leaf.Number a e) h = refl
-leaf-stays v (Leaf.Letter c u) h = absurd (miss unlettered 1 tt h)
-leaf-stays v (Leaf.Operator c) h = refl
-leaf-stays v (Leaf.Function t) h = refl
-leaf-stays v (Leaf.FunctionName a e) h = refl
-leaf-stays v (Leaf.Space w) h = refl
-leaf-stays v (Leaf.StrechedOp o) h = refl
-leaf-stays v (Leaf.OtherOperator t) h = refl
-leaf-stays v (Leaf.SizedParen z t) h = refl
-leaf-stays v (Leaf.Text a e) h = refl
-leaf-stays v Leaf.Ampersand h = refl
-leaf-stays v Leaf.NewLine h = refl
-leaf-stays v (Leaf.Undefined u) h = refl
+still-leaf v (Leaf.Number a e) h = (refl, refl)
+still-leaf v (Leaf.Letter c u) h = absurd (miss unlettered 0 tt h)
+still-leaf v (Leaf.Operator c) h = (refl, refl)
+still-leaf v (Leaf.Function t) h = (refl, refl)
+still-leaf v (Leaf.FunctionName a e) h = (refl, refl)
+still-leaf v (Leaf.Space w) h = (refl, refl)
+still-leaf v (Leaf.StrechedOp o) h = (refl, refl)
+still-leaf v (Leaf.OtherOperator t) h = (refl, refl)
+still-leaf v (Leaf.SizedParen z t) h = (refl, refl)
+still-leaf v (Leaf.Text a e) h = (refl, refl)
+still-leaf v Leaf.Ampersand h = (refl, refl)
+still-leaf v Leaf.NewLine h = (refl, refl)
+still-leaf v (Leaf.Undefined u) h = (refl, refl)
 
--- .. and so does its record
-pub leaf-kept : (st : List ℕ) (i : ℕ) (v : Variant) (l : Leaf) → fieldsOf (recordAt st i) ≡ leafFields l → OneOf unlettered (tagOf the-leaf l)
-    → Put st st i (withAttr (recordAt st i) (leafFields (setLeaf v l) .attr))
-unfolding withAttr
-leaf-kept st i v l e h = rw (leaf-stays v l h, ← e) (record { same = refl; other = λ j n. refl })
+-- a letter, of whatever character and variant
+record LetterOf (t : Node) : Type 0 where
+  c : ℕ
+  u : Variant
+  is : t ≡ leaf (Leaf.Letter c u)
 
--- the numbers of a leaf differ in the attribute alone
-set-fields : (v : Variant) (l : Leaf) → numbers (leafFields l .tag) (leafFields (setLeaf v l) .attr) (leafFields l .x) (leafFields l .y) ≡ leafFields (setLeaf v l)
-unfolding setLeaf
-set-fields v (Leaf.Number a e) = refl
-set-fields v (Leaf.Letter c u) = refl
-set-fields v (Leaf.Operator c) = refl
-set-fields v (Leaf.Function t) = refl
-set-fields v (Leaf.FunctionName a e) = refl
-set-fields v (Leaf.Space w) = refl
-set-fields v (Leaf.StrechedOp o) = refl
-set-fields v (Leaf.OtherOperator t) = refl
-set-fields v (Leaf.SizedParen z t) = refl
-set-fields v (Leaf.Text a e) = refl
-set-fields v Leaf.Ampersand = refl
-set-fields v Leaf.NewLine = refl
-set-fields v (Leaf.Undefined u) = refl
+letter-leaf : (l : Leaf) → leafRole l ≡ Role.Letter → LetterOf (leaf l)
+letter-leaf (Leaf.Number a e) h = never cc
+letter-leaf (Leaf.Letter c u) h = record { c = c; u = u; is = refl }
+letter-leaf (Leaf.Operator c) h = never cc
+letter-leaf (Leaf.Function t) h = never cc
+letter-leaf (Leaf.FunctionName a e) h = never cc
+letter-leaf (Leaf.Space w) h = never cc
+letter-leaf (Leaf.StrechedOp o) h = never cc
+letter-leaf (Leaf.OtherOperator t) h = never cc
+letter-leaf (Leaf.SizedParen z t) h = never cc
+letter-leaf (Leaf.Text a e) h = never cc
+letter-leaf Leaf.Ampersand h = never cc
+letter-leaf Leaf.NewLine h = never cc
+letter-leaf (Leaf.Undefined u) h = never cc
 
--- a leaf whose record has the new attribute has the variant set
-leaf-turned : (st st′ : List ℕ) (lo i : ℕ) (v : Variant) (l : Leaf) → Put st st′ i (withAttr (recordAt st i) (leafFields (setLeaf v l) .attr))
-    → holds st lo i (leaf l) → Turned st st′ lo i v (leaf l)
-unfolding setVariant withAttr
-leaf-turned st st′ lo i v l put h =
+letter-of : (t : Node) → roleOf (kindOf t) ≡ Role.Letter → LetterOf t
+letter-of (leaf l) h = letter-leaf l h
+letter-of (one k a) h = never cc
+letter-of (two k a b) h = never cc
+letter-of (three k a b c) h = never cc
+letter-of (row ns) h = never cc
+letter-of (matrix align ns) h = never cc
+
+-- a letter whose record has the variant's attribute has the variant set
+letter-turned : (st st′ : List ℕ) (lo i : ℕ) (v u : Variant) (c : ℕ) → Put st st′ i (withAttr (recordAt st i) (variantCode v))
+    → holds st lo i (leaf (Leaf.Letter c u)) → Turned st st′ lo i v (leaf (Leaf.Letter c u))
+unfolding setVariant setLeaf withAttr
+letter-turned st st′ lo i v u c put h =
     let low-i = h .0 in
     let s = h .1 in
     let same = put .same in
@@ -81,7 +85,7 @@ leaf-turned st st′ lo i v l put h =
       held = (
         low-i,
         record {
-          kind = ap (λ q. fieldsOf q) same ∙ ap (λ f. numbers (f .tag) (leafFields (setLeaf v l) .attr) (f .x) (f .y)) (s .kind) ∙ set-fields v l;
+          kind = ap (λ q. fieldsOf q) same ∙ ap (λ f. numbers (f .tag) (variantCode v) (f .x) (f .y)) (s .kind);
           a = ap (λ q. q .a) same ∙ s .a;
           b = ap (λ q. q .b) same ∙ s .b;
           c = ap (λ q. q .c) same ∙ s .c;
@@ -92,19 +96,13 @@ leaf-turned st st′ lo i v l put h =
       next = ap (λ q. q .next) same;
     }
 
--- what set_leaf asks of a stored tree that is read as a leaf
-pub leaf-read : (st : List ℕ) (i : ℕ) (l : Leaf) → Stored st i → shapeOf (fieldsOf (recordAt st i)) ≡ Shape.Leaf l → fieldsOf (recordAt st i) ≡ leafFields l
-leaf-read st i l s e =
-    let k = sym (shape-held st (s .lo) i (s .tree) (s .held)) ∙ e in
-    kind-held st (s .lo) i (s .tree) (s .held) ∙ ap (λ q. fields q) k
-
--- a leaf is set by its record alone
-pub sets-leaf : (st st′ : List ℕ) (i : ℕ) (v : Variant) (l : Leaf) → shapeOf (fieldsOf (recordAt st i)) ≡ Shape.Leaf l
-    → Put st st′ i (withAttr (recordAt st i) (leafFields (setLeaf v l) .attr)) → Sets st st′ i v
-sets-leaf st st′ i v l e put = record {
+-- a letter is set by its record alone
+pub sets-letter : (st st′ : List ℕ) (i : ℕ) (v : Variant) → roleOf (shapeOf (fieldsOf (recordAt st i))) ≡ Role.Letter
+    → Put st st′ i (withAttr (recordAt st i) (variantCode v)) → Sets st st′ i v
+sets-letter st st′ i v e put = record {
   all = λ lo t h.
-      let is = leaf-of t l (sym (shape-held st lo i t h) ∙ e) in
-      rw is (leaf-turned st st′ lo i v l put (rw is at h));
+      let w = letter-of t (sym (role-held st lo i t h) ∙ e) in
+      rw (w .is) (letter-turned st st′ lo i v (w .u) (w .c) put (rw (w .is) at h));
 }
 
 -- the nodes of the tree at i are being set: `todo` are left, n of them, and k is the next
@@ -171,10 +169,12 @@ still-starts st lo i k v t e h = record {
   finish = λ st″ g same all. rw e (frame st st″ lo i t (λ j p q. g j q) (same-but same) h);
 }
 
-starts : (st : List ℕ) (lo i : ℕ) (v : Variant) (t : Node) → OneOf parted (tagOf the-shape (kindOf t)) → holds st lo i t
-    → (todo : Nodes) × Going st i v lo t st (recordAt st i .a) (rowCount (kindOf t)) todo
+starts : (st : List ℕ) (lo i : ℕ) (v : Variant) (t : Node) → OneOf unlettered (tagOf the-role (roleOf (kindOf t))) → holds st lo i t
+    → (todo : Nodes) × Going st i v lo t st (recordAt st i .a) (rowCount (roleOf (kindOf t))) todo
 unfolding setVariant
-starts st lo i v (leaf l) d h = absurd (miss parted 0 tt d)
+starts st lo i v (leaf l) d h =
+    let q = still-leaf v l d in
+    (empty, rw (q .1) (still-starts st lo i _ v (leaf l) (ap (λ m. leaf m) (q .0)) h))
 starts st lo i v (one k a) d h = (empty, still-starts st lo i _ v (one k a) refl h)
 starts st lo i v (two k a b) d h = (empty, still-starts st lo i _ v (two k a b) refl h)
 starts st lo i v (three k a b c) d h = (empty, still-starts st lo i _ v (three k a b c) refl h)
@@ -182,10 +182,10 @@ starts st lo i v (row ns) d h = (ns, row-starts st lo i v ns h)
 starts st lo i v (matrix align ns) d h = (empty, still-starts st lo i _ v (matrix align ns) refl h)
 
 -- before the first node
-pub goes-start : (st : List ℕ) (i : ℕ) (v : Variant) (s : Shape) → s ≡ shapeOf (fieldsOf (recordAt st i)) → OneOf parted (tagOf the-shape s)
-    → Goes st i v st (recordAt st i .a) (rowCount s)
-goes-start st i v s e d lo t h =
-    let is : s ≡ kindOf t = e ∙ shape-held st lo i t h in
+pub goes-start : (st : List ℕ) (i : ℕ) (v : Variant) (k : Role) → k ≡ roleOf (shapeOf (fieldsOf (recordAt st i))) → OneOf unlettered (tagOf the-role k)
+    → Goes st i v st (recordAt st i .a) (rowCount k)
+goes-start st i v k e d lo t h =
+    let is : k ≡ roleOf (kindOf t) = e ∙ role-held st lo i t h in
     rw is (starts st lo i v t (rw is at d) h)
 
 next-stored : (st₀ : List ℕ) (i : ℕ) (v : Variant) (lo : ℕ) (t : Node) (st : List ℕ) (k n : ℕ) (todo : Nodes) → Going st₀ i v lo t st k n todo → 0 < n

@@ -11,6 +11,7 @@ use Rattle.ast.specs.declared.One.{One}
 use Rattle.ast.specs.declared.Two.{Two}
 use Rattle.ast.specs.declared.Three.{Three}
 use Rattle.ast.specs.declared.Shape.{Shape}
+use Rattle.ast.specs.declared.Role.{Role}
 use Rattle.ast.specs.declared.Fields.{Fields}
 use Rattle.ast.specs.declared.Record.{Record}
 
@@ -116,6 +117,30 @@ matrixShape v x y = Shape.Matrix (alignOf v) x
 unfoldable pub shapeOf : Fields → Shape
 shapeOf f = getD shapes (f .tag) matrixShape (f .attr) (f .x) (f .y)
 
+-- what set_variant, `\middle` and an environment ask of a node
+abbrev pub leafRole : Leaf → Role
+leafRole (Leaf.Number a e) = Role.Other
+leafRole (Leaf.Letter c v) = Role.Letter
+leafRole (Leaf.Operator c) = Role.Operator c
+leafRole (Leaf.Function t) = Role.Other
+leafRole (Leaf.FunctionName a e) = Role.Other
+leafRole (Leaf.Space w) = Role.Other
+leafRole (Leaf.StrechedOp o) = Role.Other
+leafRole (Leaf.OtherOperator t) = Role.OtherOperator t
+leafRole (Leaf.SizedParen z t) = Role.Other
+leafRole (Leaf.Text a e) = Role.Other
+leafRole Leaf.Ampersand = Role.Other
+leafRole Leaf.NewLine = Role.Other
+leafRole (Leaf.Undefined u) = Role.Other
+
+abbrev pub roleOf : Shape → Role
+roleOf (Shape.Leaf l) = leafRole l
+roleOf (Shape.One k) = Role.Other
+roleOf (Shape.Two k) = Role.Other
+roleOf (Shape.Three k) = Role.Other
+roleOf (Shape.Row n) = Role.Row n
+roleOf (Shape.Matrix align n) = Role.Other
+
 abbrev pub fieldsOf : Record → Fields
 fieldsOf r = numbers (r .tag) (r .attr) (r .x) (r .y)
 
@@ -141,11 +166,3 @@ Placed (Leaf.Undefined Undefined.RBrace) = Unit {0}
 Placed (Leaf.Undefined Undefined.Underscore) = Unit {0}
 Placed (Leaf.Undefined Undefined.Circumflex) = Unit {0}
 Placed (Leaf.Undefined (Undefined.Command a e)) = (a < 2 ^ 32) × (e < 2 ^ 32)
-
-abbrev pub PlacedShape : Shape → Type 0
-PlacedShape (Shape.Leaf l) = Placed l
-PlacedShape (Shape.One k) = Unit {0}
-PlacedShape (Shape.Two k) = Unit {0}
-PlacedShape (Shape.Three k) = Unit {0}
-PlacedShape (Shape.Row n) = Unit {0}
-PlacedShape (Shape.Matrix align n) = Unit {0}

@@ -5,7 +5,7 @@ use mathlib.Core.List.{List}
 use Prim.Native.Nat.{ℕ, _+_, _*_, _≤_, _<_}
 use lib.ListN.{length}
 use Rattle.attribute.specs.declared.Variant.{Variant}
-use Rattle.ast.specs.declared.Shape.{Shape}
+use Rattle.ast.specs.declared.Role.{Role}
 use Rattle.ast.specs.Store.{recordAt}
 use Rattle.ast.specs.Tree.{Node, setVariant}
 use Rattle.ast.specs.Held.{holds}
@@ -29,10 +29,9 @@ pub record Sets (st st′ : List ℕ) (i : ℕ) (v : Variant) : Type 0 where
   pub all : (lo : ℕ) (t : Node) → holds st lo i t → Turned st st′ lo i v t
 
 -- how many nodes the variant is handed on to: a row's, and no other node's parts
-abbrev pub rowCount : Shape → ℕ
-rowCount (Shape.Leaf l) = 0
-rowCount (Shape.One k) = 0
-rowCount (Shape.Two k) = 0
-rowCount (Shape.Three k) = 0
-rowCount (Shape.Row n) = n
-rowCount (Shape.Matrix align n) = 0
+abbrev pub rowCount : Role → ℕ
+rowCount Role.Letter = 0
+rowCount (Role.Operator c) = 0
+rowCount (Role.OtherOperator t) = 0
+rowCount (Role.Row n) = n
+rowCount Role.Other = 0

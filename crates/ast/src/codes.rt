@@ -3,15 +3,17 @@ use crate::Fields;
 use crate::Leaf;
 use crate::One;
 use crate::Record;
+use crate::Role;
 use crate::Shape;
 use crate::Stretched;
 use crate::Three;
 use crate::Two;
+use attribute::ColumnAlign;
 use attribute::codes as attributes;
 use token::Undefined;
 ghost use mathlib.Core.Path.{_≡_};
 ghost use Prim.Native.Nat.{_^_, _<_};
-ghost use Rattle.ast.specs.Shape.{numbers, leafFields, oneFields, twoFields, threeFields, fields, shapeOf, fieldsOf, Placed, PlacedShape};
+ghost use Rattle.ast.specs.Shape.{numbers, leafFields, oneFields, twoFields, threeFields, fields, shapeOf, roleOf, fieldsOf, Placed};
 
 fn numbers(tag: u8, attr: u8, x: u32, y: u32) -> Fields
     ensures { λ r. ⌜ r ≡ numbers tag attr x y ⌝ }
@@ -51,7 +53,8 @@ fn stretched_fields(s: Stretched) -> Fields
     }
 }
 
-fn leaf_fields(l: Leaf) -> Fields
+// The numbers of a leaf.
+pub fn leaf_fields(l: Leaf) -> Fields
     requires { ⌜ Placed l ⌝ }
     ensures { λ r. ⌜ r ≡ leafFields l ⌝ }
 {
@@ -72,7 +75,8 @@ fn leaf_fields(l: Leaf) -> Fields
     }
 }
 
-fn one_fields(k: One) -> Fields
+// The numbers of a node with one part.
+pub fn one_fields(k: One) -> Fields
     ensures { λ r. ⌜ r ≡ oneFields k ⌝ }
 {
     match k {
@@ -85,7 +89,8 @@ fn one_fields(k: One) -> Fields
     }
 }
 
-fn two_fields(k: Two) -> Fields
+// The numbers of a node with two parts.
+pub fn two_fields(k: Two) -> Fields
     ensures { λ r. ⌜ r ≡ twoFields k ⌝ }
 {
     match k {
@@ -99,7 +104,8 @@ fn two_fields(k: Two) -> Fields
     }
 }
 
-fn three_fields(k: Three) -> Fields
+// The numbers of a node with three parts.
+pub fn three_fields(k: Three) -> Fields
     ensures { λ r. ⌜ r ≡ threeFields k ⌝ }
 {
     match k {
@@ -108,23 +114,22 @@ fn three_fields(k: Three) -> Fields
     }
 }
 
-// The numbers of a node.
-pub fn fields(k: Shape) -> Fields
-    requires { ⌜ PlacedShape k ⌝ }
-    ensures { λ r. ⌜ r ≡ fields k ⌝ }
+// The numbers of a row of n nodes.
+pub fn row_fields(n: u32) -> Fields
+    ensures { λ r. ⌜ r ≡ fields (Shape.Row n) ⌝ }
 {
-    match k {
-        Shape::Leaf(l) => leaf_fields(l),
-        Shape::One(o) => one_fields(o),
-        Shape::Two(t) => two_fields(t),
-        Shape::Three(t) => three_fields(t),
-        Shape::Row(n) => numbers(35, 0, n, 0),
-        Shape::Matrix(align, n) => numbers(36, attributes::column_align_code(align), n, 0),
-    }
+    numbers(35, 0, n, 0)
+}
+
+// The numbers of a matrix of n nodes.
+pub fn matrix_fields(align: ColumnAlign, n: u32) -> Fields
+    ensures { λ r. ⌜ r ≡ fields (Shape.Matrix align n) ⌝ }
+{
+    numbers(36, attributes::column_align_code(align), n, 0)
 }
 
 // The node of a record's numbers.
-pub fn shape(f: Fields) -> Shape
+fn shape(f: Fields) -> Shape
     ensures { λ r. ⌜ r ≡ shapeOf f ⌝ }
 {
     let tag = f.tag;
@@ -182,4 +187,19 @@ pub fn shape_of(r: Record) -> Shape
         x: r.x,
         y: r.y,
     })
+}
+
+// The role of the node that a record is, which takes less of the record than the node does.
+pub fn role_of(r: Record) -> Role
+    ensures { λ k. ⌜ k ≡ roleOf (shapeOf (fieldsOf r)) ⌝ }
+{
+    let tag = r.tag;
+    let x = r.x;
+    match tag {
+        1 => Role::Letter,
+        2 => Role::Operator(x),
+        8 => Role::OtherOperator(x),
+        35 => Role::Row(x),
+        _ => Role::Other,
+    }
 }

@@ -97,6 +97,15 @@ pub enum Shape {
     Matrix(ColumnAlign, u32),
 }
 
+// What `set_variant`, `\middle` and an environment ask of a node: the number of an operator, and the number of a row's nodes.
+pub enum Role {
+    Letter,
+    Operator(u32),
+    OtherOperator(u32),
+    Row(u32),
+    Other,
+}
+
 // The numbers of a record that say what node it is.
 pub struct Fields {
     pub tag: u8,

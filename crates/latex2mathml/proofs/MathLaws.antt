@@ -6,8 +6,8 @@ use Prim.Native.Nat.{ℕ}
 use Rattle.text.specs.Text.{bytes}
 use Rattle.attribute.specs.declared.DisplayStyle.{DisplayStyle}
 use Rattle.attribute.specs.Names.{displayStyle}
+use Rattle.markup.specs.declared.Place.{Place}
 use Rattle.markup.specs.Print.{printAll}
-use Rattle.print.specs.declared.Place.{Place}
 use Rattle.print.specs.Shown.{shownAll}
 use Rattle.print.proofs.PieceLaws.{Between}
 use Rattle.print.proofs.ShownLaws.{all-plain}

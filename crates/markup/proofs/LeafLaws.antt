@@ -1,49 +1,40 @@
--- Leaves that print as anywhere else under a slash and in a matrix.
+-- Leaves as they are printed at a place.
 -- Assumes nothing.
-use mathlib.Core.Path.{_≡_, refl}
+use mathlib.Core.Path.{_≡_, refl, ap, _∙_}
 use mathlib.Core.List.{List, [], _∷_}
 use Prim.Native.Nat.{ℕ}
 use types.Run.{OneOf, miss}
 use denote.Enum.Declared.{tagOf}
 use Rattle.ast.specs.declared.Leaf.{Leaf}
-use Rattle.markup.specs.Print.{slashLeaf, cellLeaf}
-use Rattle.ast.proofs.Leaf.{the-type}
+use Rattle.ast.specs.Tree.{leaf}
+use Rattle.markup.specs.declared.Place.{Place}
+use Rattle.markup.specs.Print.{slashLeaf, slash, cellLeaf, cell, atPlace}
+use Rattle.markup.proofs.Place.{the-type}
 
--- the places, among the enum's variants, of the leaves that bear no slash, and of those that are no break of a matrix
+-- a leaf that neither bears a slash nor breaks a matrix prints the same anywhere
+pub anywhere : (place : Place) {l l′ : Leaf} (m : List ℕ) → l ≡ l′ → slashLeaf l′ m ≡ m → cellLeaf l′ m ≡ m → atPlace place (leaf l) m ≡ m
+unfolding atPlace slash cell
+anywhere Place.Plain m e s c = refl
+anywhere Place.Slashed m e s c = ap (λ k. slashLeaf k m) e ∙ s
+anywhere Place.Cell m e s c = ap (λ k. cellLeaf k m) e ∙ c
+
+-- the places, among the enum's variants, that are not under a slash, and that are not in a matrix
 abbrev pub unslashed : List ℕ
-unslashed = 0 ∷ 3 ∷ 4 ∷ 5 ∷ 6 ∷ 7 ∷ 8 ∷ 9 ∷ 10 ∷ 11 ∷ 12 ∷ []
+unslashed = 0 ∷ 2 ∷ []
 
-abbrev pub unbroken : List ℕ
-unbroken = 0 ∷ 1 ∷ 2 ∷ 3 ∷ 4 ∷ 5 ∷ 6 ∷ 7 ∷ 8 ∷ 9 ∷ 12 ∷ []
+abbrev pub uncelled : List ℕ
+uncelled = 0 ∷ 1 ∷ []
 
-pub slash-other : (l : Leaf) (m : List ℕ) → OneOf unslashed (tagOf the-type l) → slashLeaf l m ≡ m
-unfolding slashLeaf
-slash-other (Leaf.Number a e) m h = refl
-slash-other (Leaf.Letter c v) m h = absurd (miss unslashed 1 tt h)
-slash-other (Leaf.Operator c) m h = absurd (miss unslashed 2 tt h)
-slash-other (Leaf.Function t) m h = refl
-slash-other (Leaf.FunctionName a e) m h = refl
-slash-other (Leaf.Space w) m h = refl
-slash-other (Leaf.StrechedOp o) m h = refl
-slash-other (Leaf.OtherOperator t) m h = refl
-slash-other (Leaf.SizedParen z t) m h = refl
-slash-other (Leaf.Text a e) m h = refl
-slash-other Leaf.Ampersand m h = refl
-slash-other Leaf.NewLine m h = refl
-slash-other (Leaf.Undefined u) m h = refl
+-- a leaf that breaks no matrix, where it has no slash to bear
+pub no-slash : (place : Place) (l : Leaf) (m : List ℕ) → OneOf unslashed (tagOf the-type place) → cellLeaf l m ≡ m → atPlace place (leaf l) m ≡ m
+unfolding atPlace slash cell
+no-slash Place.Plain l m h c = refl
+no-slash Place.Slashed l m h c = absurd (miss unslashed 1 tt h)
+no-slash Place.Cell l m h c = c
 
-pub cell-other : (l : Leaf) (m : List ℕ) → OneOf unbroken (tagOf the-type l) → cellLeaf l m ≡ m
-unfolding cellLeaf
-cell-other (Leaf.Number a e) m h = refl
-cell-other (Leaf.Letter c v) m h = refl
-cell-other (Leaf.Operator c) m h = refl
-cell-other (Leaf.Function t) m h = refl
-cell-other (Leaf.FunctionName a e) m h = refl
-cell-other (Leaf.Space w) m h = refl
-cell-other (Leaf.StrechedOp o) m h = refl
-cell-other (Leaf.OtherOperator t) m h = refl
-cell-other (Leaf.SizedParen z t) m h = refl
-cell-other (Leaf.Text a e) m h = refl
-cell-other Leaf.Ampersand m h = absurd (miss unbroken 10 tt h)
-cell-other Leaf.NewLine m h = absurd (miss unbroken 11 tt h)
-cell-other (Leaf.Undefined u) m h = refl
+-- a leaf that bears no slash, where it has no matrix to break
+pub no-cell : (place : Place) (l : Leaf) (m : List ℕ) → OneOf uncelled (tagOf the-type place) → slashLeaf l m ≡ m → atPlace place (leaf l) m ≡ m
+unfolding atPlace slash cell
+no-cell Place.Plain l m h s = refl
+no-cell Place.Slashed l m h s = s
+no-cell Place.Cell l m h s = absurd (miss uncelled 2 tt h)

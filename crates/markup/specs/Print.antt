@@ -20,6 +20,7 @@ use Rattle.ast.specs.declared.One.{One}
 use Rattle.ast.specs.declared.Two.{Two}
 use Rattle.ast.specs.declared.Three.{Three}
 use Rattle.ast.specs.Tree.{Node, Nodes, empty, _then_}
+use Rattle.markup.specs.declared.Place.{Place}
 
 -- the bytes of a fixed text, of a width, and of the letters of the body s from a up to e
 unfoldable pub fixedText : ℕ → List ℕ
@@ -157,6 +158,12 @@ cell (Node.two k a b) m = m
 cell (Node.three k a b c) m = m
 cell (Node.row ns) m = m
 cell (Node.matrix align ns) m = m
+
+-- the markup m of a node as it is printed at a place
+unfoldable pub atPlace : Place → Node → List ℕ → List ℕ
+atPlace Place.Plain t m = m
+atPlace Place.Slashed t m = slash t m
+atPlace Place.Cell t m = cell t m
 
 -- the markup of a node of the body s
 unfoldable mutual

@@ -1,4 +1,5 @@
 // The printer: `Display` of the Rust's `Node`.
+use crate::Place;
 use ast::Leaf;
 use ast::Stretched;
 use attribute::Variant;
@@ -18,7 +19,8 @@ ghost use Rattle.text.specs.Utf8.{encode};
 ghost use Rattle.text.specs.Text.{bytes, part};
 ghost use Rattle.text.specs.Put.{Room, Puts};
 ghost use Rattle.token.specs.Debug.{Inside};
-ghost use Rattle.markup.specs.Print.{fixedText, widthText, letterText, stretchedText, variantText, letterMarkup, operatorMarkup, sizedMarkup, undefinedMarkup, printLeaf, slashLeaf, cellLeaf};
+ghost use Rattle.markup.specs.Print.{fixedText, widthText, letterText, stretchedText, variantText, letterMarkup, operatorMarkup, sizedMarkup, parseError, undefinedMarkup, printLeaf, atPlace};
+ghost use Rattle.ast.specs.Tree.{leaf};
 ghost use Rattle.ast.specs.Inside.{LeafInside};
 
 // Puts a fixed text between two pieces.
@@ -185,15 +187,69 @@ fn put_undefined(s: &[u8], u: Undefined, out: &mut [u8], at: usize, write: bool)
     put(b"\")]</mtext>", out, end, write)
 }
 
-// Puts a leaf. A byte string is laid down where its function begins; copied in a block it is laid down only in its arm.
-pub fn put_leaf(s: &[u8], l: Leaf, out: &mut [u8], at: usize, write: bool) -> usize
-    requires { ⌜ LeafInside (length (now s)) l × Room write (now out) at (length (printLeaf (now s) l)) ⌝ }
-    ensures { λ r. ⌜ Puts write (now (out .entry)) (now (out .exit)) at (printLeaf (now (s .entry)) l) r ⌝ }
+// Puts a letter at a place: under a slash it has its variant in any case.
+fn put_letter_at(place: Place, c: u32, v: Variant, out: &mut [u8], at: usize, write: bool) -> usize
+    requires { ⌜ Room write (now out) at (length (atPlace place (leaf (Leaf.Letter c v)) (letterMarkup c v))) ⌝ }
+    ensures { λ r. ⌜ Puts write (now (out .entry)) (now (out .exit)) at (atPlace place (leaf (Leaf.Letter c v)) (letterMarkup c v)) r ⌝ }
+{
+    if let Place::Slashed = place {
+        return put_variant_letter(c, v, &{ *b"&#x0338;</mi>" }, out, at, write);
+    }
+    put_letter(c, v, out, at, write)
+}
+
+// Puts an operator at a place: under a slash a partial differential has no attribute.
+fn put_operator_at(place: Place, c: u32, out: &mut [u8], at: usize, write: bool) -> usize
+    requires { ⌜ Room write (now out) at (length (atPlace place (leaf (Leaf.Operator c)) (operatorMarkup c))) ⌝ }
+    ensures { λ r. ⌜ Puts write (now (out .entry)) (now (out .exit)) at (atPlace place (leaf (Leaf.Operator c)) (operatorMarkup c)) r ⌝ }
+{
+    if let Place::Slashed = place {
+        return put_character_in(&{ *b"<mo>" }, c, &{ *b"&#x0338;</mo>" }, out, at, write);
+    }
+    put_operator(c, out, at, write)
+}
+
+// Puts an ampersand, which begins a cell of a matrix.
+fn put_ampersand(place: Place, out: &mut [u8], at: usize, write: bool) -> usize
+    requires { ⌜ Room write (now out) at (length (atPlace place (leaf Leaf.Ampersand) (parseError (bytes "Ampersand")))) ⌝ }
+    ensures { λ r. ⌜ Puts write (now (out .entry)) (now (out .exit)) at (atPlace place (leaf Leaf.Ampersand) (parseError (bytes "Ampersand"))) r ⌝ }
+{
+    if let Place::Cell = place {
+        return put(&{ *b"</mtd><mtd>" }, out, at, write);
+    }
+    put(
+        &{ *b"<mtext>[PARSE ERROR: Ampersand]</mtext>" },
+        out,
+        at,
+        write,
+    )
+}
+
+// Puts a new line, which begins a row of a matrix.
+fn put_new_line(place: Place, out: &mut [u8], at: usize, write: bool) -> usize
+    requires { ⌜ Room write (now out) at (length (atPlace place (leaf Leaf.NewLine) (parseError (bytes "NewLine")))) ⌝ }
+    ensures { λ r. ⌜ Puts write (now (out .entry)) (now (out .exit)) at (atPlace place (leaf Leaf.NewLine) (parseError (bytes "NewLine"))) r ⌝ }
+{
+    if let Place::Cell = place {
+        return put(&{ *b"</mtd></mtr><mtr><mtd>" }, out, at, write);
+    }
+    put(
+        &{ *b"<mtext>[PARSE ERROR: NewLine]</mtext>" },
+        out,
+        at,
+        write,
+    )
+}
+
+// Puts a leaf at a place. A byte string is laid down where its function begins; copied in a block it is laid down only in its arm.
+pub fn put_leaf(place: Place, s: &[u8], l: Leaf, out: &mut [u8], at: usize, write: bool) -> usize
+    requires { ⌜ LeafInside (length (now s)) l × Room write (now out) at (length (atPlace place (leaf l) (printLeaf (now s) l))) ⌝ }
+    ensures { λ r. ⌜ Puts write (now (out .entry)) (now (out .exit)) at (atPlace place (leaf l) (printLeaf (now (s .entry)) l)) r ⌝ }
 {
     match l {
         Leaf::Number(a, e) => put_part_in(&{ *b"<mn>" }, s, a, e, &{ *b"</mn>" }, out, at, write),
-        Leaf::Letter(c, v) => put_letter(c, v, out, at, write),
-        Leaf::Operator(c) => put_operator(c, out, at, write),
+        Leaf::Letter(c, v) => put_letter_at(place, c, v, out, at, write),
+        Leaf::Operator(c) => put_operator_at(place, c, out, at, write),
         Leaf::Function(t) => put_text_in(&{ *b"<mi>" }, t, &{ *b"</mi>" }, out, at, write),
         Leaf::FunctionName(a, e) => put_letters_in(
             &{ *b"<mi>" },
@@ -226,49 +282,8 @@ pub fn put_leaf(s: &[u8], l: Leaf, out: &mut [u8], at: usize, write: bool) -> us
             at,
             write,
         ),
-        Leaf::Ampersand => put(
-            &{ *b"<mtext>[PARSE ERROR: Ampersand]</mtext>" },
-            out,
-            at,
-            write,
-        ),
-        Leaf::NewLine => put(
-            &{ *b"<mtext>[PARSE ERROR: NewLine]</mtext>" },
-            out,
-            at,
-            write,
-        ),
+        Leaf::Ampersand => put_ampersand(place, out, at, write),
+        Leaf::NewLine => put_new_line(place, out, at, write),
         Leaf::Undefined(u) => put_undefined(s, u, out, at, write),
-    }
-}
-
-// Puts a leaf under a slash: a letter and an operator bear it, any other leaf stands as it is.
-pub fn put_slashed_leaf(s: &[u8], l: Leaf, out: &mut [u8], at: usize, write: bool) -> usize
-    requires { ⌜ LeafInside (length (now s)) l × Room write (now out) at (length (slashLeaf l (printLeaf (now s) l))) ⌝ }
-    ensures { λ r. ⌜ Puts write (now (out .entry)) (now (out .exit)) at (slashLeaf l (printLeaf (now (s .entry)) l)) r ⌝ }
-{
-    match l {
-        Leaf::Letter(c, v) => put_variant_letter(c, v, &{ *b"&#x0338;</mi>" }, out, at, write),
-        Leaf::Operator(c) => put_character_in(
-            &{ *b"<mo>" },
-            c,
-            &{ *b"&#x0338;</mo>" },
-            out,
-            at,
-            write,
-        ),
-        _ => put_leaf(s, l, out, at, write),
-    }
-}
-
-// Puts a leaf that is a direct part of a matrix: an ampersand begins a cell and a new line a row.
-pub fn put_cell_leaf(s: &[u8], l: Leaf, out: &mut [u8], at: usize, write: bool) -> usize
-    requires { ⌜ LeafInside (length (now s)) l × Room write (now out) at (length (cellLeaf l (printLeaf (now s) l))) ⌝ }
-    ensures { λ r. ⌜ Puts write (now (out .entry)) (now (out .exit)) at (cellLeaf l (printLeaf (now (s .entry)) l)) r ⌝ }
-{
-    match l {
-        Leaf::Ampersand => put(&{ *b"</mtd><mtd>" }, out, at, write),
-        Leaf::NewLine => put(&{ *b"</mtd></mtr><mtr><mtd>" }, out, at, write),
-        _ => put_leaf(s, l, out, at, write),
     }
 }

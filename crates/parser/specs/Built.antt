@@ -7,8 +7,7 @@ use Prim.Native.Nat.{ℕ, _+_, _*_, _^_, _≤_, _<_}
 use lib.ListN.{length}
 use Rattle.token.specs.declared.Mark.{Mark}
 use Rattle.ast.specs.declared.Record.{Record}
-use Rattle.ast.specs.declared.Shape.{Shape}
-use Rattle.ast.specs.Shape.{fields}
+use Rattle.ast.specs.declared.Fields.{Fields}
 use Rattle.ast.specs.Store.{recordAt}
 use Rattle.ast.specs.Tree.{Node, Nodes}
 use Rattle.ast.specs.Held.{count, holds, holdsAll}
@@ -47,17 +46,17 @@ abbrev pub BuildsRow : List ℕ → List ℕ → Parser → ℕ → ℕ → (Nod
 BuildsRow st st′ p first n want r =
     (lo before last : ℕ) (ns : Nodes) → holdsAll st lo first before last (p .made) ns → n ≡ count ns → Builds st st′ lo p (want ns) r
 
--- the record of a node of the kind k with parts at the indices a, b and c
-unfoldable pub nodeRecord : Shape → ℕ → ℕ → ℕ → Record
-nodeRecord k a b c = record {
-  tag = fields k .tag;
-  attr = fields k .attr;
+-- the record of a node of which the numbers are f, with parts at the indices a, b and c
+unfoldable pub nodeRecord : Fields → ℕ → ℕ → ℕ → Record
+nodeRecord f a b c = record {
+  tag = f .tag;
+  attr = f .attr;
   a = a;
   b = b;
   c = c;
   next = 0;
-  x = fields k .x;
-  y = fields k .y;
+  x = f .x;
+  y = f .y;
 }
 
 -- k records more can be made

@@ -7,15 +7,16 @@ use crate::ParsedNode;
 use crate::Parser;
 use crate::marks::fence_of;
 use crate::marks::paren_of;
+use ast::Fields;
 use ast::Leaf;
 use ast::One;
 use ast::Record;
-use ast::Shape;
+use ast::Role;
 use ast::Stretched;
 use ast::Three;
 use ast::Two;
 use ast::codes;
-use ast::codes::shape_of;
+use ast::codes::role_of;
 use ast::store::get_record;
 use ast::store::put_record;
 use attribute::Accent;
@@ -27,19 +28,18 @@ ghost use mathlib.Core.Path.{_≡_};
 ghost use Prim.Native.Nat.{_+_, _-_, _*_, _^_, _≤_, _<_};
 ghost use lib.ListN.{length};
 ghost use Rattle.token.specs.Roles.{parenOf};
-ghost use Rattle.ast.specs.Shape.{fieldsOf, shapeOf, Placed, PlacedShape};
+ghost use Rattle.ast.specs.Shape.{Placed};
 ghost use Rattle.ast.specs.Store.{Put};
 ghost use Rattle.ast.specs.Tree.{leaf, one, two, three};
-ghost use Rattle.parser.specs.Parse.{build, grouped, ofPair, operator, withBelow, withAbove, withBoth, fenced, stretchLeaf, stretch, stretched, sized, opened, inEnvironment};
+ghost use Rattle.parser.specs.Parse.{build, grouped, ofPair, operator, withBelow, withAbove, withBoth, fenced, stretch, stretched, sized, opened, inEnvironment};
 ghost use Rattle.parser.specs.Marks.{withLimit, withLimits};
 ghost use Rattle.parser.specs.Built.{nodeRecord, Free, BuildsNone, BuildsOne, BuildsTwo, BuildsRow};
 
-// Puts a node of a kind with its parts at an index.
-fn put_node(store: &mut [u8], i: usize, k: Shape, a: usize, b: usize, c: usize)
-    requires { ⌜ (i * 24 + 24 ≤ length (now store)) × PlacedShape k × (a < 65536) × (b < 65536) × (c < 65536) ⌝ }
-    ensures { λ _. ⌜ Put (now (store .entry)) (now (store .exit)) i (nodeRecord k a b c) ⌝ }
+// Puts a node of which the numbers are f, with its parts, at an index.
+fn put_node(store: &mut [u8], i: usize, f: Fields, a: usize, b: usize, c: usize)
+    requires { ⌜ (i * 24 + 24 ≤ length (now store)) × (a < 65536) × (b < 65536) × (c < 65536) ⌝ }
+    ensures { λ _. ⌜ Put (now (store .entry)) (now (store .exit)) i (nodeRecord f a b c) ⌝ }
 {
-    let f = codes::fields(k);
     put_record(
         store,
         i,
@@ -72,7 +72,7 @@ pub fn make_leaf(store: &mut [u8], p: Parser, l: Leaf) -> ParsedNode
     requires { ⌜ Free (now store) p 1 × Placed l ⌝ }
     ensures { λ r. ⌜ BuildsNone (now (store .entry)) (now (store .exit)) p (build 1 (leaf l) p) r ⌝ }
 {
-    put_node(store, p.made, Shape::Leaf(l), 0, 0, 0);
+    put_node(store, p.made, codes::leaf_fields(l), 0, 0, 0);
     done(p, 1)
 }
 
@@ -81,7 +81,7 @@ pub fn make_one(store: &mut [u8], p: Parser, k: One, a: usize) -> ParsedNode
     requires { ⌜ Free (now store) p 1 × (a < p .made) ⌝ }
     ensures { λ r. ⌜ BuildsOne (now (store .entry)) (now (store .exit)) p a (λ n. build 1 (one k n) p) r ⌝ }
 {
-    put_node(store, p.made, Shape::One(k), a, 0, 0);
+    put_node(store, p.made, codes::one_fields(k), a, 0, 0);
     done(p, 1)
 }
 
@@ -90,7 +90,7 @@ pub fn make_two(store: &mut [u8], p: Parser, k: Two, a: usize, b: usize) -> Pars
     requires { ⌜ Free (now store) p 1 × (a < p .made) × (b < p .made) ⌝ }
     ensures { λ r. ⌜ BuildsTwo (now (store .entry)) (now (store .exit)) p a b (λ m n. build 1 (two k m n) p) r ⌝ }
 {
-    put_node(store, p.made, Shape::Two(k), a, b, 0);
+    put_node(store, p.made, codes::two_fields(k), a, b, 0);
     done(p, 1)
 }
 
@@ -100,8 +100,8 @@ pub fn make_leaf_first(store: &mut [u8], p: Parser, k: Two, l: Leaf, b: usize) -
     ensures { λ r. ⌜ BuildsOne (now (store .entry)) (now (store .exit)) p b (λ n. build 2 (two k (leaf l) n) p) r ⌝ }
 {
     let i = p.made;
-    put_node(store, i, Shape::Leaf(l), 0, 0, 0);
-    put_node(store, i + 1, Shape::Two(k), i, b, 0);
+    put_node(store, i, codes::leaf_fields(l), 0, 0, 0);
+    put_node(store, i + 1, codes::two_fields(k), i, b, 0);
     done(p, 2)
 }
 
@@ -111,8 +111,8 @@ pub fn make_leaf_second(store: &mut [u8], p: Parser, k: Two, a: usize, l: Leaf) 
     ensures { λ r. ⌜ BuildsOne (now (store .entry)) (now (store .exit)) p a (λ n. build 2 (two k n (leaf l)) p) r ⌝ }
 {
     let i = p.made;
-    put_node(store, i, Shape::Leaf(l), 0, 0, 0);
-    put_node(store, i + 1, Shape::Two(k), a, i, 0);
+    put_node(store, i, codes::leaf_fields(l), 0, 0, 0);
+    put_node(store, i + 1, codes::two_fields(k), a, i, 0);
     done(p, 2)
 }
 
@@ -125,17 +125,24 @@ fn make_binom(store: &mut [u8], p: Parser, d: Binomial, a: usize, b: usize) -> P
     put_node(
         store,
         i,
-        Shape::Two(Two::Frac(LineThickness::Zero)),
+        codes::two_fields(Two::Frac(LineThickness::Zero)),
         a,
         b,
         0,
     );
-    put_node(store, i + 1, Shape::One(One::Fenced(1, 2)), i, 0, 0); // ( )
+    put_node(store, i + 1, codes::one_fields(One::Fenced(1, 2)), i, 0, 0); // ( )
     match d {
         Binomial::Plain => done(p, 2),
         Binomial::Styled(display) => {
-            put_node(store, i + 2, Shape::Row(1), i + 1, 0, 0);
-            put_node(store, i + 3, Shape::One(One::Style(display)), i + 2, 0, 0);
+            put_node(store, i + 2, codes::row_fields(1), i + 1, 0, 0);
+            put_node(
+                store,
+                i + 3,
+                codes::one_fields(One::Style(display)),
+                i + 2,
+                0,
+                0,
+            );
             done(p, 4)
         }
     }
@@ -167,9 +174,9 @@ pub fn make_explained(
     ensures { λ r. ⌜ BuildsTwo (now (store .entry)) (now (store .exit)) p target expl (λ m n. build 3 (two k m (two k (leaf (Leaf.Operator x)) n)) p) r ⌝ }
 {
     let i = p.made;
-    put_node(store, i, Shape::Leaf(Leaf::Operator(x)), 0, 0, 0);
-    put_node(store, i + 1, Shape::Two(k), i, expl, 0);
-    put_node(store, i + 2, Shape::Two(k), target, i + 1, 0);
+    put_node(store, i, codes::leaf_fields(Leaf::Operator(x)), 0, 0, 0);
+    put_node(store, i + 1, codes::two_fields(k), i, expl, 0);
+    put_node(store, i + 2, codes::two_fields(k), target, i + 1, 0);
     done(p, 3)
 }
 
@@ -212,8 +219,8 @@ fn make_both(store: &mut [u8], p: Parser, k: Three, c: u32, x: usize, y: usize) 
     ensures { λ r. ⌜ BuildsTwo (now (store .entry)) (now (store .exit)) p x y (λ m n. build 2 (three k (leaf (Leaf.Operator c)) m n) p) r ⌝ }
 {
     let i = p.made;
-    put_node(store, i, Shape::Leaf(Leaf::Operator(c)), 0, 0, 0);
-    put_node(store, i + 1, Shape::Three(k), i, x, y);
+    put_node(store, i, codes::leaf_fields(Leaf::Operator(c)), 0, 0, 0);
+    put_node(store, i + 1, codes::three_fields(k), i, x, y);
     done(p, 2)
 }
 
@@ -257,25 +264,14 @@ pub fn make_limits(
     make_under_over(store, p, k, x, y)
 }
 
-// What `\middle` makes of a leaf.
-fn make_stretched_leaf(store: &mut [u8], p: Parser, l: Leaf) -> ParsedNode
-    requires { ⌜ Free (now store) p 1 ⌝ }
-    ensures { λ r. ⌜ BuildsNone (now (store .entry)) (now (store .exit)) p (stretched (stretchLeaf l) p) r ⌝ }
-{
-    match l {
-        Leaf::Operator(c) => make_leaf(store, p, Leaf::StrechedOp(Stretched::Character(c))),
-        Leaf::OtherOperator(t) => make_leaf(store, p, Leaf::StrechedOp(Stretched::Fixed(t))),
-        _ => ParsedNode::Refused(Refusal::MiddleOperand),
-    }
-}
-
 // What `\middle` makes of its operand.
 pub fn make_stretched(store: &mut [u8], p: Parser, i: usize) -> ParsedNode
     requires { ⌜ Free (now store) p 1 × (i < p .made) ⌝ }
     ensures { λ r. ⌜ BuildsOne (now (store .entry)) (now (store .exit)) p i (λ n. stretched (stretch n) p) r ⌝ }
 {
-    match shape_of(get_record(store, i)) {
-        Shape::Leaf(l) => make_stretched_leaf(store, p, l),
+    match role_of(get_record(store, i)) {
+        Role::Operator(c) => make_leaf(store, p, Leaf::StrechedOp(Stretched::Character(c))),
+        Role::OtherOperator(t) => make_leaf(store, p, Leaf::StrechedOp(Stretched::Fixed(t))),
         _ => ParsedNode::Refused(Refusal::MiddleOperand),
     }
 }
@@ -314,7 +310,7 @@ pub fn make_row(store: &mut [u8], p: Parser, first: usize, count: usize) -> Pars
     if count == 1 {
         return ParsedNode::Node(first, p);
     }
-    put_node(store, p.made, Shape::Row(count as u32), first, 0, 0);
+    put_node(store, p.made, codes::row_fields(count as u32), first, 0, 0);
     done(p, 1)
 }
 
@@ -333,19 +329,19 @@ fn make_matrix(
     match env {
         Environment::Unknown => ParsedNode::Refused(Refusal::UnknownEnvironment),
         Environment::Bare(align) => {
-            put_node(store, i, Shape::Matrix(align, count), first, 0, 0);
+            put_node(store, i, codes::matrix_fields(align, count), first, 0, 0);
             done(p, 1)
         }
         Environment::Between(t, u) => {
             put_node(
                 store,
                 i,
-                Shape::Matrix(ColumnAlign::Center, count),
+                codes::matrix_fields(ColumnAlign::Center, count),
                 first,
                 0,
                 0,
             );
-            put_node(store, i + 1, Shape::One(One::Fenced(t, u)), i, 0, 0);
+            put_node(store, i + 1, codes::one_fields(One::Fenced(t, u)), i, 0, 0);
             done(p, 2)
         }
     }
@@ -357,8 +353,8 @@ pub fn make_environment(store: &mut [u8], p: Parser, env: Environment, content: 
     ensures { λ r. ⌜ BuildsOne (now (store .entry)) (now (store .exit)) p content (λ n. inEnvironment env (opened n) p) r ⌝ }
 {
     let r = get_record(store, content);
-    match shape_of(r) {
-        Shape::Row(n) => make_matrix(store, p, env, r.a, n),
+    match role_of(r) {
+        Role::Row(n) => make_matrix(store, p, env, r.a, n),
         _ => make_matrix(store, p, env, content, 1),
     }
 }

@@ -3,7 +3,7 @@
 use mathlib.Core.Bool.{Bool}
 use mathlib.Core.List.{List}
 use Prim.Native.Nat.{ℕ}
-use Rattle.print.specs.declared.Place.{Place}
+use Rattle.markup.specs.declared.Place.{Place}
 use Rattle.print.specs.Shown.{shown, TreeAt, TwoAt, ThreeAt, Printable, Prints}
 use Rattle.print.proofs.PieceLaws.{both-first, both-next, both-prints}
 use Rattle.print.proofs.ShownLaws.{twoPlain, threePlain}

@@ -11,7 +11,7 @@ use Rattle.ast.specs.Store.{recordAt}
 use Rattle.ast.specs.Tree.{Node, Nodes, empty, _then_}
 use Rattle.ast.specs.Held.{count}
 use Rattle.ast.proofs.HeldLaws.{low-all}
-use Rattle.print.specs.declared.Place.{Place}
+use Rattle.markup.specs.declared.Place.{Place}
 use Rattle.print.specs.Shown.{shown, shownAll, TreeAt, Both, NodesAt, Printable, Prints}
 use Rattle.print.proofs.PieceLaws.{Same, Like, able-like, prints-like, both-first, both-next, both-prints}
 

@@ -10,27 +10,27 @@ use Rattle.ast.specs.declared.One.{One}
 use Rattle.ast.specs.declared.Two.{Two}
 use Rattle.ast.specs.declared.Three.{Three}
 use Rattle.ast.specs.Tree.{Node, one, two, three, row, matrix, Nodes, empty, _then_}
-use Rattle.markup.specs.Print.{cell, print, printAll, printCells}
+use Rattle.markup.specs.Print.{cell, atPlace, print, printAll, printCells}
 use Rattle.markup.specs.Fronts.{frontOne, backOne, frontTwo, backTwo, frontThree, backThree}
 use Rattle.markup.proofs.FrontLaws.{between, one-pieces, two-pieces, three-pieces}
-use Rattle.print.specs.declared.Place.{Place}
+use Rattle.markup.specs.declared.Place.{Place}
 use Rattle.print.specs.Shown.{placeOf, shown, shownAll}
 use Rattle.print.proofs.PieceLaws.{Between}
 
 -- nodes by themselves and the nodes of a matrix
 pub all-plain : (s : List ℕ) (ns : Nodes) → printAll s ns ≡ shownAll Place.Plain s ns
-unfolding bytes print shown shownAll
+unfolding bytes print shown shownAll atPlace
 all-plain s empty = refl
 all-plain s (t then ns) = ap (λ l. print s t ++ l) (all-plain s ns)
 
 pub all-cells : (s : List ℕ) (ns : Nodes) → printCells s ns ≡ shownAll Place.Cell s ns
-unfolding bytes print shown shownAll
+unfolding bytes print shown shownAll atPlace
 all-cells s empty = refl
 all-cells s (t then ns) = ap (λ l. cell t (print s t) ++ l) (all-cells s ns)
 
 -- the part of a node with one part
 part-shown : (s : List ℕ) (k : One) (t : Node) → between k t (print s t) ≡ shown (placeOf k) s t
-unfolding shown placeOf
+unfolding shown atPlace placeOf
 part-shown s (One.OverOp c acc) t = refl
 part-shown s (One.UnderOp c acc) t = refl
 part-shown s One.Sqrt t = refl
@@ -55,7 +55,7 @@ two-together f l m b = simp append-assoc
 
 pub two-shown : (s : List ℕ) (k : Two)
     → Between (λ (t : Node × Node). print s (two k (t .0) (t .1))) (frontTwo k) (twoPlain s) (backTwo k)
-unfolding print shown
+unfolding print shown atPlace
 two-shown s k = record {
   pieces = λ t.
       two-pieces k (print s (t .0)) (print s (t .1)) ∙ two-together (frontTwo k) (print s (t .0)) (print s (t .1)) (backTwo k);
@@ -69,7 +69,7 @@ pub three-shown : (s : List ℕ) (k : Three)
     (frontThree k)
     (threePlain s)
     (backThree k)
-unfolding print shown
+unfolding print shown atPlace
 three-shown s k = record {
   pieces = λ t.
       three-pieces k (print s (t .0)) (print s (t .1 .0)) (print s (t .1 .1))

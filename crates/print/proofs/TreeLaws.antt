@@ -13,8 +13,8 @@ use Rattle.ast.specs.Tree.{Node, leaf, one, two, three, row, matrix, Nodes}
 use Rattle.ast.specs.Held.{Part, Rowed, count, holds, holdsAll}
 use Rattle.ast.proofs.KindLaws.{kindOf, shape-held}
 use Rattle.ast.specs.Inside.{LeafInside, TreeInside, AllInside}
-use Rattle.markup.specs.Print.{slash, cell, print}
-use Rattle.print.specs.declared.Place.{Place}
+use Rattle.markup.specs.Print.{slash, cell, atPlace, print}
+use Rattle.markup.specs.declared.Place.{Place}
 use Rattle.print.specs.Shown.{shown, TreeAt, TwoAt, ThreeAt, NodesAt}
 use Rattle.print.proofs.PieceLaws.{Same, Like}
 use Rattle.print.proofs.ShownLaws.{by-place}
@@ -75,7 +75,7 @@ row-at {i} lo ns near fits o inside = record {
 
 -- the content of every tree stands so
 stood : (s st : List ℕ) (left i : ℕ) (place : Place) (t : Node) → TreeAt s st left i t → Stood s st left i place t (kindOf t)
-unfolding shown slash cell
+unfolding shown atPlace slash cell
 stood s st left i place (leaf l) h = record { what = tt; there = h .inside; same = refl }
 stood s st left i place (one k a) h =
     let o = h .held .1 in

@@ -10,8 +10,8 @@ use Rattle.ast.specs.declared.One.{One}
 use Rattle.ast.specs.Tree.{Node, Nodes, empty, _then_}
 use Rattle.ast.specs.Held.{count, holds, holdsAll}
 use Rattle.ast.specs.Inside.{TreeInside, AllInside}
-use Rattle.markup.specs.Print.{slash, cell, print}
-use Rattle.print.specs.declared.Place.{Place}
+use Rattle.markup.specs.declared.Place.{Place}
+use Rattle.markup.specs.Print.{atPlace, print}
 
 -- where the part of a node with one part is printed
 unfoldable pub placeOf : One → Place
@@ -24,9 +24,7 @@ placeOf (One.Style d) = Place.Plain
 
 -- the markup of a node of the body s, and of nodes one behind the other
 unfoldable pub shown : Place → List ℕ → Node → List ℕ
-shown Place.Plain s t = print s t
-shown Place.Slashed s t = slash t (print s t)
-shown Place.Cell s t = cell t (print s t)
+shown place s t = atPlace place t (print s t)
 
 unfoldable pub shownAll : Place → List ℕ → Nodes → List ℕ
 shownAll place s empty = []

@@ -1,6 +1,5 @@
 // The printer: a tree of the store is printed by recursion over its records. What is printed is counted or, where `write` is true,
 // written.
-use ast::Leaf;
 use ast::One;
 use ast::Shape;
 use ast::Three;
@@ -10,15 +9,14 @@ use ast::store::get_next;
 use ast::store::get_record;
 use attribute::ColumnAlign;
 use attribute::put_column_align;
+use markup::Place;
 use markup::fronts::put_back_one;
 use markup::fronts::put_back_three;
 use markup::fronts::put_back_two;
 use markup::fronts::put_front_one;
 use markup::fronts::put_front_three;
 use markup::fronts::put_front_two;
-use markup::leaf::put_cell_leaf;
 use markup::leaf::put_leaf;
-use markup::leaf::put_slashed_leaf;
 use text::put::put;
 ghost use mathlib.Core.Path.{_≡_};
 ghost use mathlib.Core.List.{_++_};
@@ -27,16 +25,8 @@ ghost use Rattle.text.specs.Text.{bytes};
 ghost use Rattle.text.specs.Put.{Room, Puts};
 ghost use Rattle.attribute.specs.Names.{columnAlign};
 ghost use Rattle.ast.specs.Tree.{Node};
-ghost use Rattle.ast.specs.Inside.{LeafInside};
 ghost use Rattle.markup.specs.Print.{print};
 ghost use Rattle.print.specs.Shown.{placeOf, shown, shownAll, TreeAt, TwoAt, ThreeAt, NodesAt, Printable, Prints};
-
-// Where a node is printed: by itself, under a slash, or as a direct part of a matrix.
-pub enum Place {
-    Plain,
-    Slashed,
-    Cell,
-}
 
 // Where the part of a node with one part is printed.
 fn place_of(k: One) -> Place
@@ -49,18 +39,6 @@ fn place_of(k: One) -> Place
         One::Fenced(_, _) => Place::Plain,
         One::Slashed => Place::Slashed,
         One::Style(_) => Place::Plain,
-    }
-}
-
-// Puts a leaf as it is printed at a place.
-fn put_leaf_at(place: Place, s: &[u8], l: Leaf, out: &mut [u8], at: usize, write: bool) -> usize
-    requires { ⌜ LeafInside (length (now s)) l × Room write (now out) at (length (shown place (now s) (Node.leaf l))) ⌝ }
-    ensures { λ r. ⌜ Puts write (now (out .entry)) (now (out .exit)) at (shown place (now (s .entry)) (Node.leaf l)) r ⌝ }
-{
-    match place {
-        Place::Plain => put_leaf(s, l, out, at, write),
-        Place::Slashed => put_slashed_leaf(s, l, out, at, write),
-        Place::Cell => put_cell_leaf(s, l, out, at, write),
     }
 }
 
@@ -90,7 +68,7 @@ pub fn print_node(
 {
     let r = get_record(store, i);
     match shape_of(r) {
-        Shape::Leaf(l) => put_leaf_at(place, s, l, out, at, write),
+        Shape::Leaf(l) => put_leaf(place, s, l, out, at, write),
         Shape::One(k) => print_one(k, s, store, r.a, left - 1, out, at, write),
         Shape::Two(k) => print_two(k, s, store, r.a, r.b, left - 1, out, at, write),
         Shape::Three(k) => print_three(k, s, store, r.a, r.b, r.c, left - 1, out, at, write),

@@ -5,6 +5,8 @@ use Prim.Native.Nat.{_+_, _*_, ℕ, _<_}
 use lib.ListN.{length}
 use Rattle.text.specs.Examples.{text-opens}
 use Rattle.ast.specs.declared.Shape.{Shape}
+use Rattle.markup.specs.Print.{print}
+use Rattle.print.specs.Shown.{shown}
 use Rattle.print.proofs.PieceLaws.{able-like, prints-like, between-front, between-inner, between-back, between-prints}
 use Rattle.print.proofs.ShownLaws.{one-shown, two-shown, three-shown, row-shown, matrix-shown}
 use Rattle.print.proofs.PartsLaws.{two-first, two-second, two-done, three-first, three-others, three-done}
@@ -43,9 +45,9 @@ use Rattle.markup.proofs.fronts.put_back_two.Reads as put-back-two-reads
 use Rattle.markup.proofs.fronts.put_front_one.Reads as put-front-one-reads
 use Rattle.markup.proofs.fronts.put_front_three.Reads as put-front-three-reads
 use Rattle.markup.proofs.fronts.put_front_two.Reads as put-front-two-reads
+use Rattle.markup.proofs.leaf.put_leaf.Reads as put-leaf-reads
 use Rattle.print.proofs.place_of.Reads as place-of-reads
 use Rattle.print.proofs.put_front_matrix.Reads as put-front-matrix-reads
-use Rattle.print.proofs.put_leaf_at.Reads as put-leaf-at-reads
 use Rattle.ast.proofs.codes.shape_of.Reads as shape-of-reads
 use Rattle.text.proofs.put.put.Reads as put-reads
 use Rattle.print.proofs.+print_matrix+print_node+print_nodes+print_one+print_row+print_three+print_two.{statement}
@@ -135,7 +137,7 @@ print-matrix-calls t = (put-front-matrix-reads.Asked, put-front-matrix-reads.Lea
 
 -- the contracts that print-node is proved from
 abbrev print-node-calls : ℕ → print-node-lts.Claims
-print-node-calls t = (get-record-reads.Asked, get-record-reads.Learnt, shape-of-reads.Asked, shape-of-reads.Learnt, put-leaf-at-reads.Asked, put-leaf-at-reads.Learnt, print-one-below t, print-one.Post, print-two-below t, print-two.Post, print-three-below t, print-three.Post, print-row-below t, print-row.Post, print-matrix-below t, print-matrix.Post)
+print-node-calls t = (get-record-reads.Asked, get-record-reads.Learnt, shape-of-reads.Asked, shape-of-reads.Learnt, put-leaf-reads.Asked, put-leaf-reads.Learnt, print-one-below t, print-one.Post, print-two-below t, print-two.Post, print-three-below t, print-three.Post, print-row-below t, print-row.Post, print-matrix-below t, print-matrix.Post)
 
 -- the contracts that print-nodes is proved from
 abbrev print-nodes-calls : ℕ → print-nodes-lts.Claims
@@ -191,8 +193,9 @@ print-node-shape-of-requires t c κs = search needs
 print-node-enum-known-l : (t : ℕ) → print-node-lts.Need-enum-known-l (print-node-calls t) (print-node-at t) print-node.Post
 print-node-enum-known-l t c = search needs
 
-print-node-put-leaf-at-requires : (t : ℕ) → print-node-lts.Need-put-leaf-at-requires (print-node-calls t) (print-node-at t) print-node.Post
-print-node-put-leaf-at-requires t c κs =
+print-node-put-leaf-requires : (t : ℕ) → print-node-lts.Need-put-leaf-requires (print-node-calls t) (print-node-at t) print-node.Post
+unfolding shown print
+print-node-put-leaf-requires t c κs =
     let p = able-like (of-kind ((c .before .before .before .before .before .before .before .before .before .args) .place) (Shape.Leaf _) ((c .before .before .before .before .before .get-record) .ensures .0) ((c .before .before .before .before .shape-of) .ensures) ((c .before .before .l) .given .1)) ((c .before .before .before .before .before .before .before .before .before .pre) .1) in
     (p .there, p .room)
 
@@ -265,8 +268,9 @@ print-node-same-length : (t : ℕ) → print-node-lts.Need-same-length (print-no
 print-node-same-length t c = search needs
 
 print-node-returns : (t : ℕ) → print-node-lts.Need-returns (print-node-calls t) (print-node-at t) print-node.Post
+unfolding shown print
 print-node-returns t c =
-    prints-like (of-kind ((c .before .before .before .before .before .before .before .before .before .before .before .before .args) .place) (Shape.Leaf _) ((c .before .before .before .before .before .before .before .before .get-record) .ensures .0) ((c .before .before .before .before .before .before .before .shape-of) .ensures) ((c .before .before .before .before .before .l) .given .1)) (record { all = λ t h room. (c .before .before .put-leaf-at) .ensures })
+    prints-like (of-kind ((c .before .before .before .before .before .before .before .before .before .before .before .before .args) .place) (Shape.Leaf _) ((c .before .before .before .before .before .before .before .before .get-record) .ensures .0) ((c .before .before .before .before .before .before .before .shape-of) .ensures) ((c .before .before .before .before .before .l) .given .1)) (record { all = λ t h room. (c .before .before .put-leaf) .ensures })
 
 print-node-same-length-2 : (t : ℕ) → print-node-lts.Need-same-length-2 (print-node-calls t) (print-node-at t) print-node.Post
 print-node-same-length-2 t c = search needs
@@ -479,7 +483,7 @@ pub +print-matrix+print-node+print-nodes+print-one+print-row+print-three+print-t
     (print-node-get-record-requires t)
     (print-node-shape-of-requires t)
     (print-node-enum-known-l t)
-    (print-node-put-leaf-at-requires t)
+    (print-node-put-leaf-requires t)
     (print-node-enum-known-k t)
     (print-node-sub-print-one t)
     (print-node-print-one-requires t)

@@ -2,21 +2,22 @@
 -- Assumes nothing.
 use mathlib.Core.Path.{_≡_, refl, sym, ap, _∙_}
 use lib.ListN.{length}
-use Rattle.ast.specs.Shape.{fieldsOf, shapeOf}
-use Rattle.ast.proofs.VariantLaws.{leaf-read, sets-leaf, Goes, goes-start, goes-next, goes-step, goes-done}
+use Rattle.ast.specs.Shape.{fieldsOf, shapeOf, roleOf}
+use Rattle.ast.proofs.VariantLaws.{sets-letter, Goes, goes-start, goes-next, goes-step, goes-done}
+use Prim.Native.Nat.{ℕ, _<_}
 use borrow.Author.Needs.{needs}
 use native.Mathlib.Omega.{arith}
-use Prim.Native.Nat.{ℕ, _<_}
 use borrow.Fn.Kinds.{In}
 use borrow.Fn.PlainCycle.{Measures, is, falls, and}
 use Rattle.ast.proofs.variant.set_variant.Reads as set-variant
 use Rattle.ast.proofs.variant.set_variant.Kinds as set-variant-kinds
 use Rattle.ast.proofs.variant.+set_variant.Lts-set_variant as set-variant-lts
-use Rattle.ast.proofs.codes.shape.Reads as shape-reads
+use Rattle.ast.proofs.codes.role_of.Reads as role-of-reads
 use Rattle.ast.proofs.store.get_next.Reads as get-next-reads
 use Rattle.ast.proofs.store.get_record.Reads as get-record-reads
+use Rattle.ast.proofs.store.set_attr.Reads as set-attr-reads
 use Rattle.ast.proofs.variant.row_count.Reads as row-count-reads
-use Rattle.ast.proofs.variant.set_leaf.Reads as set-leaf-reads
+use Rattle.attribute.proofs.codes.variant_code.Reads as variant-code-reads
 use Rattle.ast.proofs.variant.+set_variant.{statement}
 use Rattle.ast.proofs.variant.+set_variant.Tie.{close}
 
@@ -40,36 +41,38 @@ set-variant-μ-loop store₀ i v left k₀ n₀ store k n = n
 
 -- the contracts that set-variant is proved from
 abbrev set-variant-calls : ℕ → set-variant-lts.Claims
-set-variant-calls t = (get-record-reads.Asked, get-record-reads.Learnt, shape-reads.Asked, shape-reads.Learnt, set-leaf-reads.Asked, set-leaf-reads.Learnt, row-count-reads.Asked, row-count-reads.Learnt, set-variant-below t, set-variant.Post, get-next-reads.Asked, get-next-reads.Learnt)
+set-variant-calls t = (get-record-reads.Asked, get-record-reads.Learnt, role-of-reads.Asked, role-of-reads.Learnt, variant-code-reads.Asked, variant-code-reads.Learnt, set-attr-reads.Asked, set-attr-reads.Learnt, row-count-reads.Asked, row-count-reads.Learnt, set-variant-below t, set-variant.Post, get-next-reads.Asked, get-next-reads.Learnt)
 
 set-variant-get-record-requires : (t : ℕ) → set-variant-lts.Need-get-record-requires (set-variant-calls t) (set-variant-at t) set-variant.Post set-variant-Inv-loop set-variant-μ-loop
 set-variant-get-record-requires t c κs = (c .before .before .pre) .1 .0 .fits
 
-set-variant-shape-requires : (t : ℕ) → set-variant-lts.Need-shape-requires (set-variant-calls t) (set-variant-at t) set-variant.Post set-variant-Inv-loop set-variant-μ-loop
-set-variant-shape-requires t c κs = search needs
+set-variant-role-of-requires : (t : ℕ) → set-variant-lts.Need-role-of-requires (set-variant-calls t) (set-variant-at t) set-variant.Post set-variant-Inv-loop set-variant-μ-loop
+set-variant-role-of-requires t c κs = search needs
 
-set-variant-enum-known-kind : (t : ℕ) → set-variant-lts.Need-enum-known-kind (set-variant-calls t) (set-variant-at t) set-variant.Post set-variant-Inv-loop set-variant-μ-loop
-set-variant-enum-known-kind t c = search needs
+set-variant-enum-told : (t : ℕ) → set-variant-lts.Need-enum-told (set-variant-calls t) (set-variant-at t) set-variant.Post set-variant-Inv-loop set-variant-μ-loop
+set-variant-enum-told t c = search needs
 
-set-variant-set-leaf-requires : (t : ℕ) → set-variant-lts.Need-set-leaf-requires (set-variant-calls t) (set-variant-at t) set-variant.Post set-variant-Inv-loop set-variant-μ-loop
-set-variant-set-leaf-requires t c κs =
-    let e = ap (λ q. shapeOf (fieldsOf q)) (sym ((c .before .before .before .before .before .get-record) .ensures .0)) ∙ sym ((c .before .before .before .before .shape) .ensures) ∙ (c .before .before .kind) .given .1 in
-    ((c .before .before .before .before .before .before .before .before .pre) .1 .0 .fits, leaf-read ((c .before .before .before .before .before .before .before .before .args) .store .now) ((c .before .before .before .before .before .before .before .before .args) .i) _ ((c .before .before .before .before .before .before .before .before .pre) .1 .0) e)
+set-variant-variant-code-requires : (t : ℕ) → set-variant-lts.Need-variant-code-requires (set-variant-calls t) (set-variant-at t) set-variant.Post set-variant-Inv-loop set-variant-μ-loop
+set-variant-variant-code-requires t c κs = search needs
+
+set-variant-set-attr-requires : (t : ℕ) → set-variant-lts.Need-set-attr-requires (set-variant-calls t) (set-variant-at t) set-variant.Post set-variant-Inv-loop set-variant-μ-loop
+set-variant-set-attr-requires t c κs =
+    (c .before .before .before .before .before .before .before .before .pre) .1 .0 .fits
 
 set-variant-same-length : (t : ℕ) → set-variant-lts.Need-same-length (set-variant-calls t) (set-variant-at t) set-variant.Post set-variant-Inv-loop set-variant-μ-loop
 set-variant-same-length t c = search needs
 
 set-variant-returns : (t : ℕ) → set-variant-lts.Need-returns (set-variant-calls t) (set-variant-at t) set-variant.Post set-variant-Inv-loop set-variant-μ-loop
 set-variant-returns t c =
-    let e = ap (λ q. shapeOf (fieldsOf q)) (sym ((c .before .before .before .before .before .before .before .before .get-record) .ensures .0)) ∙ sym ((c .before .before .before .before .before .before .before .shape) .ensures) ∙ (c .before .before .before .before .before .kind) .given .1 in
-    sets-leaf ((c .before .before .before .before .before .before .before .before .before .before .before .args) .store .now) _ ((c .before .before .before .before .before .before .before .before .before .before .before .args) .i) ((c .before .before .before .before .before .before .before .before .before .before .before .args) .v) _ e ((c .before .before .set-leaf) .ensures)
+    let e = ap (λ q. roleOf (shapeOf (fieldsOf q))) (sym ((c .before .before .before .before .before .before .before .before .get-record) .ensures .0)) ∙ sym ((c .before .before .before .before .before .before .before .role-of) .ensures) ∙ (c .before .before .before .before .before .enum-told) .given .1 in
+    sets-letter ((c .before .before .before .before .before .before .before .before .before .before .before .args) .store .now) _ ((c .before .before .before .before .before .before .before .before .before .before .before .args) .i) ((c .before .before .before .before .before .before .before .before .before .before .before .args) .v) e (rw ((c .before .before .before .variant-code) .ensures) at ((c .before .before .set-attr) .ensures))
 
 set-variant-row-count-requires : (t : ℕ) → set-variant-lts.Need-row-count-requires (set-variant-calls t) (set-variant-at t) set-variant.Post set-variant-Inv-loop set-variant-μ-loop
 set-variant-row-count-requires t c κs = search needs
 
 set-variant-loop-holds : (t : ℕ) → set-variant-lts.Need-loop-holds (set-variant-calls t) (set-variant-at t) set-variant.Post set-variant-Inv-loop set-variant-μ-loop
 set-variant-loop-holds t c =
-    let e = (c .before .before .shape) .ensures ∙ ap (λ q. shapeOf (fieldsOf q)) ((c .before .before .before .get-record) .ensures .0) in
+    let e = (c .before .before .role-of) .ensures ∙ ap (λ q. roleOf (shapeOf (fieldsOf q))) ((c .before .before .before .get-record) .ensures .0) in
     (refl, rw ((c .row-count) .ensures, (c .before .before .before .get-record) .ensures .0) (goes-start ((c .before .before .before .before .before .before .args) .store .now) ((c .before .before .before .before .before .before .args) .i) ((c .before .before .before .before .before .before .args) .v) _ e ((c .before .match) .keys2)))
 
 set-variant-sub-set-variant : (t : ℕ) → set-variant-lts.Need-sub-set-variant (set-variant-calls t) (set-variant-at t) set-variant.Post set-variant-Inv-loop set-variant-μ-loop
@@ -117,9 +120,10 @@ pub +set-variant-spec : {M : Type 1} → statement M
     set-variant-Inv-loop
     set-variant-μ-loop
     (set-variant-get-record-requires t)
-    (set-variant-shape-requires t)
-    (set-variant-enum-known-kind t)
-    (set-variant-set-leaf-requires t)
+    (set-variant-role-of-requires t)
+    (set-variant-enum-told t)
+    (set-variant-variant-code-requires t)
+    (set-variant-set-attr-requires t)
     (set-variant-same-length t)
     (set-variant-returns t)
     (set-variant-row-count-requires t)

@@ -1,23 +1,27 @@
 -- `markup::leaf::put_leaf` meets its contract.
 -- Assumes nothing.
+use mathlib.Core.Path.{refl}
 use Rattle.text.specs.Examples.{text-opens}
-use Rattle.markup.specs.Print.{printLeaf, parseError}
+use Rattle.text.proofs.PutLaws.{room-as, puts-as}
+use Rattle.markup.specs.Print.{slashLeaf, cellLeaf, printLeaf, parseError}
+use Rattle.markup.proofs.LeafLaws.{anywhere}
 use borrow.Author.Needs.{needs}
 use native.Mathlib.Omega.{arith}
 use Rattle.markup.proofs.leaf.put_leaf.Statement.{statement}
 use Rattle.markup.proofs.leaf.put_leaf.Tie as tie
 use Rattle.markup.proofs.leaf.put_leaf.Reads as reads
 use Rattle.markup.proofs.leaf.put_leaf.Lts as lts
-use Rattle.markup.proofs.leaf.put_letter.Reads as put-letter-reads
+use Rattle.markup.proofs.leaf.put_ampersand.Reads as put-ampersand-reads
+use Rattle.markup.proofs.leaf.put_letter_at.Reads as put-letter-at-reads
 use Rattle.markup.proofs.leaf.put_letters_in.Reads as put-letters-in-reads
-use Rattle.markup.proofs.leaf.put_operator.Reads as put-operator-reads
+use Rattle.markup.proofs.leaf.put_new_line.Reads as put-new-line-reads
+use Rattle.markup.proofs.leaf.put_operator_at.Reads as put-operator-at-reads
 use Rattle.markup.proofs.leaf.put_part_in.Reads as put-part-in-reads
 use Rattle.markup.proofs.leaf.put_sized_paren.Reads as put-sized-paren-reads
 use Rattle.markup.proofs.leaf.put_stretched.Reads as put-stretched-reads
 use Rattle.markup.proofs.leaf.put_text_in.Reads as put-text-in-reads
 use Rattle.markup.proofs.leaf.put_undefined.Reads as put-undefined-reads
 use Rattle.markup.proofs.leaf.put_width_in.Reads as put-width-in-reads
-use Rattle.text.proofs.put.put.Reads as put-reads
 
 enum-known-l : tie.Need-enum-known-l
 enum-known-l c = search needs
@@ -29,26 +33,27 @@ slice-aggregate-put-part-in-2 : tie.Need-slice-aggregate-put-part-in-2
 slice-aggregate-put-part-in-2 c = search needs
 
 put-part-in-requires : tie.Need-put-part-in-requires
-unfolding text-opens printLeaf parseError
+unfolding text-opens printLeaf parseError slashLeaf cellLeaf
 put-part-in-requires c κs =
-    let p = rw ((c .before .before .before .before .before .before .before .before .l) .given .1) at ((c .before .before .before .before .before .before .before .before .before .before .before .before .pre)) in
-    (p .0 .0, p .0 .1, p .1)
+    let e = anywhere ((c .before .before .before .before .before .before .before .before .before .before .before .before .args) .place) (printLeaf ((c .before .before .before .before .before .before .before .before .before .before .before .before .args) .s .now) ((c .before .before .before .before .before .before .before .before .before .before .before .before .args) .l)) ((c .before .before .before .before .before .before .before .before .l) .given .1) refl refl in
+    let p = rw ((c .before .before .before .before .before .before .before .before .l) .given .1) at ((c .before .before .before .before .before .before .before .before .before .before .before .before .pre) .0) in
+    (p .0, p .1, rw ((c .before .before .before .before .before .before .before .before .l) .given .1) at (room-as e ((c .before .before .before .before .before .before .before .before .before .before .before .before .pre) .1)))
 
 enum-known-l-2 : tie.Need-enum-known-l-2
 enum-known-l-2 c = search needs
 
-put-letter-requires : tie.Need-put-letter-requires
+put-letter-at-requires : tie.Need-put-letter-at-requires
 unfolding text-opens printLeaf parseError
-put-letter-requires c κs =
-    (rw ((c .before .before .l2) .given .1) at ((c .before .before .before .before .before .before .pre))) .1
+put-letter-at-requires c κs =
+    (rw ((c .before .before .l2) .given .1) at (c .before .before .before .before .before .before .pre)) .1
 
 enum-known-l-3 : tie.Need-enum-known-l-3
 enum-known-l-3 c = search needs
 
-put-operator-requires : tie.Need-put-operator-requires
+put-operator-at-requires : tie.Need-put-operator-at-requires
 unfolding text-opens printLeaf parseError
-put-operator-requires c κs =
-    (rw ((c .before .before .l3) .given .1) at ((c .before .before .before .before .before .before .pre))) .1
+put-operator-at-requires c κs =
+    (rw ((c .before .before .l3) .given .1) at (c .before .before .before .before .before .before .pre)) .1
 
 enum-known-l-4 : tie.Need-enum-known-l-4
 enum-known-l-4 c = search needs
@@ -60,9 +65,10 @@ slice-aggregate-put-text-in-2 : tie.Need-slice-aggregate-put-text-in-2
 slice-aggregate-put-text-in-2 c = search needs
 
 put-text-in-requires : tie.Need-put-text-in-requires
-unfolding text-opens printLeaf parseError
+unfolding text-opens printLeaf parseError slashLeaf cellLeaf
 put-text-in-requires c κs =
-    (rw ((c .before .before .before .before .before .before .before .before .l4) .given .1) at ((c .before .before .before .before .before .before .before .before .before .before .before .before .pre))) .1
+    let e = anywhere ((c .before .before .before .before .before .before .before .before .before .before .before .before .args) .place) (printLeaf ((c .before .before .before .before .before .before .before .before .before .before .before .before .args) .s .now) ((c .before .before .before .before .before .before .before .before .before .before .before .before .args) .l)) ((c .before .before .before .before .before .before .before .before .l4) .given .1) refl refl in
+    rw ((c .before .before .before .before .before .before .before .before .l4) .given .1) at (room-as e ((c .before .before .before .before .before .before .before .before .before .before .before .before .pre) .1))
 
 enum-known-l-5 : tie.Need-enum-known-l-5
 enum-known-l-5 c = search needs
@@ -74,10 +80,11 @@ slice-aggregate-put-letters-in-2 : tie.Need-slice-aggregate-put-letters-in-2
 slice-aggregate-put-letters-in-2 c = search needs
 
 put-letters-in-requires : tie.Need-put-letters-in-requires
-unfolding text-opens printLeaf parseError
+unfolding text-opens printLeaf parseError slashLeaf cellLeaf
 put-letters-in-requires c κs =
-    let p = rw ((c .before .before .before .before .before .before .before .before .l5) .given .1) at ((c .before .before .before .before .before .before .before .before .before .before .before .before .pre)) in
-    (p .0 .0, p .0 .1, p .1)
+    let e = anywhere ((c .before .before .before .before .before .before .before .before .before .before .before .before .args) .place) (printLeaf ((c .before .before .before .before .before .before .before .before .before .before .before .before .args) .s .now) ((c .before .before .before .before .before .before .before .before .before .before .before .before .args) .l)) ((c .before .before .before .before .before .before .before .before .l5) .given .1) refl refl in
+    let p = rw ((c .before .before .before .before .before .before .before .before .l5) .given .1) at ((c .before .before .before .before .before .before .before .before .before .before .before .before .pre) .0) in
+    (p .0, p .1, rw ((c .before .before .before .before .before .before .before .before .l5) .given .1) at (room-as e ((c .before .before .before .before .before .before .before .before .before .before .before .before .pre) .1)))
 
 enum-known-l-6 : tie.Need-enum-known-l-6
 enum-known-l-6 c = search needs
@@ -89,17 +96,19 @@ slice-aggregate-put-width-in-2 : tie.Need-slice-aggregate-put-width-in-2
 slice-aggregate-put-width-in-2 c = search needs
 
 put-width-in-requires : tie.Need-put-width-in-requires
-unfolding text-opens printLeaf parseError
+unfolding text-opens printLeaf parseError slashLeaf cellLeaf
 put-width-in-requires c κs =
-    (rw ((c .before .before .before .before .before .before .before .before .l6) .given .1) at ((c .before .before .before .before .before .before .before .before .before .before .before .before .pre))) .1
+    let e = anywhere ((c .before .before .before .before .before .before .before .before .before .before .before .before .args) .place) (printLeaf ((c .before .before .before .before .before .before .before .before .before .before .before .before .args) .s .now) ((c .before .before .before .before .before .before .before .before .before .before .before .before .args) .l)) ((c .before .before .before .before .before .before .before .before .l6) .given .1) refl refl in
+    rw ((c .before .before .before .before .before .before .before .before .l6) .given .1) at (room-as e ((c .before .before .before .before .before .before .before .before .before .before .before .before .pre) .1))
 
 enum-known-l-7 : tie.Need-enum-known-l-7
 enum-known-l-7 c = search needs
 
 put-stretched-requires : tie.Need-put-stretched-requires
-unfolding text-opens printLeaf parseError
+unfolding text-opens printLeaf parseError slashLeaf cellLeaf
 put-stretched-requires c κs =
-    (rw ((c .before .before .l7) .given .1) at ((c .before .before .before .before .before .before .pre))) .1
+    let e = anywhere ((c .before .before .before .before .before .before .args) .place) (printLeaf ((c .before .before .before .before .before .before .args) .s .now) ((c .before .before .before .before .before .before .args) .l)) ((c .before .before .l7) .given .1) refl refl in
+    rw ((c .before .before .l7) .given .1) at (room-as e ((c .before .before .before .before .before .before .pre) .1))
 
 enum-known-l-8 : tie.Need-enum-known-l-8
 enum-known-l-8 c = search needs
@@ -111,17 +120,19 @@ slice-aggregate-put-text-in-4 : tie.Need-slice-aggregate-put-text-in-4
 slice-aggregate-put-text-in-4 c = search needs
 
 put-text-in-requires-2 : tie.Need-put-text-in-requires-2
-unfolding text-opens printLeaf parseError
+unfolding text-opens printLeaf parseError slashLeaf cellLeaf
 put-text-in-requires-2 c κs =
-    (rw ((c .before .before .before .before .before .before .before .before .l8) .given .1) at ((c .before .before .before .before .before .before .before .before .before .before .before .before .pre))) .1
+    let e = anywhere ((c .before .before .before .before .before .before .before .before .before .before .before .before .args) .place) (printLeaf ((c .before .before .before .before .before .before .before .before .before .before .before .before .args) .s .now) ((c .before .before .before .before .before .before .before .before .before .before .before .before .args) .l)) ((c .before .before .before .before .before .before .before .before .l8) .given .1) refl refl in
+    rw ((c .before .before .before .before .before .before .before .before .l8) .given .1) at (room-as e ((c .before .before .before .before .before .before .before .before .before .before .before .before .pre) .1))
 
 enum-known-l-9 : tie.Need-enum-known-l-9
 enum-known-l-9 c = search needs
 
 put-sized-paren-requires : tie.Need-put-sized-paren-requires
-unfolding text-opens printLeaf parseError
+unfolding text-opens printLeaf parseError slashLeaf cellLeaf
 put-sized-paren-requires c κs =
-    (rw ((c .before .before .l9) .given .1) at ((c .before .before .before .before .before .before .pre))) .1
+    let e = anywhere ((c .before .before .before .before .before .before .args) .place) (printLeaf ((c .before .before .before .before .before .before .args) .s .now) ((c .before .before .before .before .before .before .args) .l)) ((c .before .before .l9) .given .1) refl refl in
+    rw ((c .before .before .l9) .given .1) at (room-as e ((c .before .before .before .before .before .before .pre) .1))
 
 enum-known-l-10 : tie.Need-enum-known-l-10
 enum-known-l-10 c = search needs
@@ -133,48 +144,45 @@ slice-aggregate-put-letters-in-4 : tie.Need-slice-aggregate-put-letters-in-4
 slice-aggregate-put-letters-in-4 c = search needs
 
 put-letters-in-requires-2 : tie.Need-put-letters-in-requires-2
-unfolding text-opens printLeaf parseError
+unfolding text-opens printLeaf parseError slashLeaf cellLeaf
 put-letters-in-requires-2 c κs =
-    let p = rw ((c .before .before .before .before .before .before .before .before .l10) .given .1) at ((c .before .before .before .before .before .before .before .before .before .before .before .before .pre)) in
-    (p .0 .0, p .0 .1, p .1)
+    let e = anywhere ((c .before .before .before .before .before .before .before .before .before .before .before .before .args) .place) (printLeaf ((c .before .before .before .before .before .before .before .before .before .before .before .before .args) .s .now) ((c .before .before .before .before .before .before .before .before .before .before .before .before .args) .l)) ((c .before .before .before .before .before .before .before .before .l10) .given .1) refl refl in
+    let p = rw ((c .before .before .before .before .before .before .before .before .l10) .given .1) at ((c .before .before .before .before .before .before .before .before .before .before .before .before .pre) .0) in
+    (p .0, p .1, rw ((c .before .before .before .before .before .before .before .before .l10) .given .1) at (room-as e ((c .before .before .before .before .before .before .before .before .before .before .before .before .pre) .1)))
 
 enum-told : tie.Need-enum-told
 enum-told c = search needs
 
-slice-aggregate-put : tie.Need-slice-aggregate-put
-slice-aggregate-put c = search needs
-
-put-requires : tie.Need-put-requires
+put-ampersand-requires : tie.Need-put-ampersand-requires
 unfolding text-opens printLeaf parseError
-put-requires c κs =
-    (rw ((c .before .before .before .before .enum-told) .given .1) at ((c .before .before .before .before .before .before .before .before .pre))) .1
+put-ampersand-requires c κs =
+    (rw ((c .before .enum-told) .given .1) at (c .before .before .before .before .before .pre)) .1
 
 enum-told-2 : tie.Need-enum-told-2
 enum-told-2 c = search needs
 
-slice-aggregate-put-2 : tie.Need-slice-aggregate-put-2
-slice-aggregate-put-2 c = search needs
-
-put-requires-2 : tie.Need-put-requires-2
+put-new-line-requires : tie.Need-put-new-line-requires
 unfolding text-opens printLeaf parseError
-put-requires-2 c κs =
-    (rw ((c .before .before .before .before .enum-told2) .given .1) at ((c .before .before .before .before .before .before .before .before .pre))) .1
+put-new-line-requires c κs =
+    (rw ((c .before .enum-told2) .given .1) at (c .before .before .before .before .before .pre)) .1
 
 enum-known-l-11 : tie.Need-enum-known-l-11
 enum-known-l-11 c = search needs
 
 put-undefined-requires : tie.Need-put-undefined-requires
-unfolding text-opens printLeaf parseError
+unfolding text-opens printLeaf parseError slashLeaf cellLeaf
 put-undefined-requires c κs =
-    rw ((c .before .before .l11) .given .1) at ((c .before .before .before .before .before .before .pre))
+    let e = anywhere ((c .before .before .before .before .before .before .args) .place) (printLeaf ((c .before .before .before .before .before .before .args) .s .now) ((c .before .before .before .before .before .before .args) .l)) ((c .before .before .l11) .given .1) refl refl in
+    (rw ((c .before .before .l11) .given .1) at ((c .before .before .before .before .before .before .pre) .0), rw ((c .before .before .l11) .given .1) at (room-as e ((c .before .before .before .before .before .before .pre) .1)))
 
 same-length : tie.Need-same-length
 same-length c = search needs
 
 returns : tie.Need-returns
-unfolding text-opens printLeaf parseError
+unfolding text-opens printLeaf parseError slashLeaf cellLeaf
 returns c =
-    rw ((c .before .before .before .before .before .before .before .before .before .before .before .l) .given .1) ((c .before .before .put-part-in) .ensures)
+    let e = anywhere ((c .before .before .before .before .before .before .before .before .before .before .before .before .before .before .before .args) .place) (printLeaf ((c .before .before .before .before .before .before .before .before .before .before .before .before .before .before .before .args) .s .now) ((c .before .before .before .before .before .before .before .before .before .before .before .before .before .before .before .args) .l)) ((c .before .before .before .before .before .before .before .before .before .before .before .l) .given .1) refl refl in
+    puts-as e (rw ((c .before .before .before .before .before .before .before .before .before .before .before .l) .given .1) ((c .before .before .put-part-in) .ensures))
 
 same-length-2 : tie.Need-same-length-2
 same-length-2 c = search needs
@@ -182,7 +190,7 @@ same-length-2 c = search needs
 returns-2 : tie.Need-returns-2
 unfolding text-opens printLeaf parseError
 returns-2 c =
-    rw ((c .before .before .before .before .before .l2) .given .1) ((c .before .before .put-letter) .ensures)
+    rw ((c .before .before .before .before .before .l2) .given .1) ((c .before .before .put-letter-at) .ensures)
 
 same-length-3 : tie.Need-same-length-3
 same-length-3 c = search needs
@@ -190,63 +198,70 @@ same-length-3 c = search needs
 returns-3 : tie.Need-returns-3
 unfolding text-opens printLeaf parseError
 returns-3 c =
-    rw ((c .before .before .before .before .before .l3) .given .1) ((c .before .before .put-operator) .ensures)
+    rw ((c .before .before .before .before .before .l3) .given .1) ((c .before .before .put-operator-at) .ensures)
 
 same-length-4 : tie.Need-same-length-4
 same-length-4 c = search needs
 
 returns-4 : tie.Need-returns-4
-unfolding text-opens printLeaf parseError
+unfolding text-opens printLeaf parseError slashLeaf cellLeaf
 returns-4 c =
-    rw ((c .before .before .before .before .before .before .before .before .before .before .before .l4) .given .1) ((c .before .before .put-text-in) .ensures)
+    let e = anywhere ((c .before .before .before .before .before .before .before .before .before .before .before .before .before .before .before .args) .place) (printLeaf ((c .before .before .before .before .before .before .before .before .before .before .before .before .before .before .before .args) .s .now) ((c .before .before .before .before .before .before .before .before .before .before .before .before .before .before .before .args) .l)) ((c .before .before .before .before .before .before .before .before .before .before .before .l4) .given .1) refl refl in
+    puts-as e (rw ((c .before .before .before .before .before .before .before .before .before .before .before .l4) .given .1) ((c .before .before .put-text-in) .ensures))
 
 same-length-5 : tie.Need-same-length-5
 same-length-5 c = search needs
 
 returns-5 : tie.Need-returns-5
-unfolding text-opens printLeaf parseError
+unfolding text-opens printLeaf parseError slashLeaf cellLeaf
 returns-5 c =
-    rw ((c .before .before .before .before .before .before .before .before .before .before .before .l5) .given .1) ((c .before .before .put-letters-in) .ensures)
+    let e = anywhere ((c .before .before .before .before .before .before .before .before .before .before .before .before .before .before .before .args) .place) (printLeaf ((c .before .before .before .before .before .before .before .before .before .before .before .before .before .before .before .args) .s .now) ((c .before .before .before .before .before .before .before .before .before .before .before .before .before .before .before .args) .l)) ((c .before .before .before .before .before .before .before .before .before .before .before .l5) .given .1) refl refl in
+    puts-as e (rw ((c .before .before .before .before .before .before .before .before .before .before .before .l5) .given .1) ((c .before .before .put-letters-in) .ensures))
 
 same-length-6 : tie.Need-same-length-6
 same-length-6 c = search needs
 
 returns-6 : tie.Need-returns-6
-unfolding text-opens printLeaf parseError
+unfolding text-opens printLeaf parseError slashLeaf cellLeaf
 returns-6 c =
-    rw ((c .before .before .before .before .before .before .before .before .before .before .before .l6) .given .1) ((c .before .before .put-width-in) .ensures)
+    let e = anywhere ((c .before .before .before .before .before .before .before .before .before .before .before .before .before .before .before .args) .place) (printLeaf ((c .before .before .before .before .before .before .before .before .before .before .before .before .before .before .before .args) .s .now) ((c .before .before .before .before .before .before .before .before .before .before .before .before .before .before .before .args) .l)) ((c .before .before .before .before .before .before .before .before .before .before .before .l6) .given .1) refl refl in
+    puts-as e (rw ((c .before .before .before .before .before .before .before .before .before .before .before .l6) .given .1) ((c .before .before .put-width-in) .ensures))
 
 same-length-7 : tie.Need-same-length-7
 same-length-7 c = search needs
 
 returns-7 : tie.Need-returns-7
-unfolding text-opens printLeaf parseError
+unfolding text-opens printLeaf parseError slashLeaf cellLeaf
 returns-7 c =
-    rw ((c .before .before .before .before .before .l7) .given .1) ((c .before .before .put-stretched) .ensures)
+    let e = anywhere ((c .before .before .before .before .before .before .before .before .before .args) .place) (printLeaf ((c .before .before .before .before .before .before .before .before .before .args) .s .now) ((c .before .before .before .before .before .before .before .before .before .args) .l)) ((c .before .before .before .before .before .l7) .given .1) refl refl in
+    puts-as e (rw ((c .before .before .before .before .before .l7) .given .1) ((c .before .before .put-stretched) .ensures))
 
 same-length-8 : tie.Need-same-length-8
 same-length-8 c = search needs
 
 returns-8 : tie.Need-returns-8
-unfolding text-opens printLeaf parseError
+unfolding text-opens printLeaf parseError slashLeaf cellLeaf
 returns-8 c =
-    rw ((c .before .before .before .before .before .before .before .before .before .before .before .l8) .given .1) ((c .before .before .put-text-in2) .ensures)
+    let e = anywhere ((c .before .before .before .before .before .before .before .before .before .before .before .before .before .before .before .args) .place) (printLeaf ((c .before .before .before .before .before .before .before .before .before .before .before .before .before .before .before .args) .s .now) ((c .before .before .before .before .before .before .before .before .before .before .before .before .before .before .before .args) .l)) ((c .before .before .before .before .before .before .before .before .before .before .before .l8) .given .1) refl refl in
+    puts-as e (rw ((c .before .before .before .before .before .before .before .before .before .before .before .l8) .given .1) ((c .before .before .put-text-in2) .ensures))
 
 same-length-9 : tie.Need-same-length-9
 same-length-9 c = search needs
 
 returns-9 : tie.Need-returns-9
-unfolding text-opens printLeaf parseError
+unfolding text-opens printLeaf parseError slashLeaf cellLeaf
 returns-9 c =
-    rw ((c .before .before .before .before .before .l9) .given .1) ((c .before .before .put-sized-paren) .ensures)
+    let e = anywhere ((c .before .before .before .before .before .before .before .before .before .args) .place) (printLeaf ((c .before .before .before .before .before .before .before .before .before .args) .s .now) ((c .before .before .before .before .before .before .before .before .before .args) .l)) ((c .before .before .before .before .before .l9) .given .1) refl refl in
+    puts-as e (rw ((c .before .before .before .before .before .l9) .given .1) ((c .before .before .put-sized-paren) .ensures))
 
 same-length-10 : tie.Need-same-length-10
 same-length-10 c = search needs
 
 returns-10 : tie.Need-returns-10
-unfolding text-opens printLeaf parseError
+unfolding text-opens printLeaf parseError slashLeaf cellLeaf
 returns-10 c =
-    rw ((c .before .before .before .before .before .before .before .before .before .before .before .l10) .given .1) ((c .before .before .put-letters-in2) .ensures)
+    let e = anywhere ((c .before .before .before .before .before .before .before .before .before .before .before .before .before .before .before .args) .place) (printLeaf ((c .before .before .before .before .before .before .before .before .before .before .before .before .before .before .before .args) .s .now) ((c .before .before .before .before .before .before .before .before .before .before .before .before .before .before .before .args) .l)) ((c .before .before .before .before .before .before .before .before .before .before .before .l10) .given .1) refl refl in
+    puts-as e (rw ((c .before .before .before .before .before .before .before .before .before .before .before .l10) .given .1) ((c .before .before .put-letters-in2) .ensures))
 
 same-length-11 : tie.Need-same-length-11
 same-length-11 c = search needs
@@ -254,7 +269,7 @@ same-length-11 c = search needs
 returns-11 : tie.Need-returns-11
 unfolding text-opens printLeaf parseError
 returns-11 c =
-    rw ((c .before .before .before .before .before .before .before .enum-told) .given .1) ((c .before .before .put) .ensures)
+    rw ((c .before .before .before .before .enum-told) .given .1) ((c .before .before .put-ampersand) .ensures)
 
 same-length-12 : tie.Need-same-length-12
 same-length-12 c = search needs
@@ -262,15 +277,16 @@ same-length-12 c = search needs
 returns-12 : tie.Need-returns-12
 unfolding text-opens printLeaf parseError
 returns-12 c =
-    rw ((c .before .before .before .before .before .before .before .enum-told2) .given .1) ((c .before .before .put2) .ensures)
+    rw ((c .before .before .before .before .enum-told2) .given .1) ((c .before .before .put-new-line) .ensures)
 
 same-length-13 : tie.Need-same-length-13
 same-length-13 c = search needs
 
 returns-13 : tie.Need-returns-13
-unfolding text-opens printLeaf parseError
+unfolding text-opens printLeaf parseError slashLeaf cellLeaf
 returns-13 c =
-    rw ((c .before .before .before .before .before .l11) .given .1) ((c .before .before .put-undefined) .ensures)
+    let e = anywhere ((c .before .before .before .before .before .before .before .before .before .args) .place) (printLeaf ((c .before .before .before .before .before .before .before .before .before .args) .s .now) ((c .before .before .before .before .before .before .before .before .before .args) .l)) ((c .before .before .before .before .before .l11) .given .1) refl refl in
+    puts-as e (rw ((c .before .before .before .before .before .l11) .given .1) ((c .before .before .put-undefined) .ensures))
 
 pub put-leaf-spec : {M : Type 1} → statement M
 put-leaf-spec =
@@ -281,9 +297,9 @@ put-leaf-spec =
     slice-aggregate-put-part-in-2
     put-part-in-requires
     enum-known-l-2
-    put-letter-requires
+    put-letter-at-requires
     enum-known-l-3
-    put-operator-requires
+    put-operator-at-requires
     enum-known-l-4
     slice-aggregate-put-text-in
     slice-aggregate-put-text-in-2
@@ -309,11 +325,9 @@ put-leaf-spec =
     slice-aggregate-put-letters-in-4
     put-letters-in-requires-2
     enum-told
-    slice-aggregate-put
-    put-requires
+    put-ampersand-requires
     enum-told-2
-    slice-aggregate-put-2
-    put-requires-2
+    put-new-line-requires
     enum-known-l-11
     put-undefined-requires
     same-length

@@ -8,8 +8,13 @@ use Rattle.parser.proofs.make.make_explained.Statement.{statement}
 use Rattle.parser.proofs.make.make_explained.Tie as tie
 use Rattle.parser.proofs.make.make_explained.Reads as reads
 use Rattle.parser.proofs.make.make_explained.Lts as lts
+use Rattle.ast.proofs.codes.leaf_fields.Reads as leaf-fields-reads
+use Rattle.ast.proofs.codes.two_fields.Reads as two-fields-reads
 use Rattle.parser.proofs.make.done.Reads as done-reads
 use Rattle.parser.proofs.make.put_node.Reads as put-node-reads
+
+leaf-fields-requires : tie.Need-leaf-fields-requires
+leaf-fields-requires c κs = search needs
 
 put-node-requires : tie.Need-put-node-requires
 put-node-requires c κs = search needs
@@ -17,11 +22,17 @@ put-node-requires c κs = search needs
 add-put-node : tie.Need-add-put-node
 add-put-node c = search needs
 
+two-fields-requires : tie.Need-two-fields-requires
+two-fields-requires c κs = search needs
+
 put-node-requires-2 : tie.Need-put-node-requires-2
 put-node-requires-2 c κs = search needs
 
 add-put-node-2 : tie.Need-add-put-node-2
 add-put-node-2 c = search needs
+
+two-fields-requires-2 : tie.Need-two-fields-requires-2
+two-fields-requires-2 c κs = search needs
 
 add-put-node-3 : tie.Need-add-put-node-3
 add-put-node-3 c = search needs
@@ -37,16 +48,19 @@ same-length c = search needs
 
 returns : tie.Need-returns
 returns c =
-    explained-made ((c .before .before .before .before .before .before .before .before .before .before .before .before .before .before .args) .p) ((c .done) .ensures) (Leaf.Operator ((c .before .before .before .before .before .before .before .before .before .before .before .before .before .before .args) .x)) ((c .before .before .before .before .before .before .before .before .before .before .before .before .before .before .args) .k) ((c .before .before .before .before .before .before .before .before .before .before .before .before .before .before .args) .target) ((c .before .before .before .before .before .before .before .before .before .before .before .before .before .before .args) .expl) ((c .before .before .before .before .before .before .before .before .before .before .before .put-node) .ensures) ((c .before .before .before .before .before .before .before .put-node2) .ensures) ((c .before .before .before .put-node3) .ensures) ((c .before .before .before .before .before .before .before .before .before .before .before .before .before .before .pre) .1) ((c .before .before .before .before .before .before .before .before .before .before .before .before .before .before .pre) .2)
+    explained-made ((c .before .before .before .before .before .before .before .before .before .before .before .before .before .before .before .before .before .args) .p) ((c .done) .ensures) (Leaf.Operator ((c .before .before .before .before .before .before .before .before .before .before .before .before .before .before .before .before .before .args) .x)) ((c .before .before .before .before .before .before .before .before .before .before .before .before .before .before .before .before .before .args) .k) ((c .before .before .before .before .before .before .before .before .before .before .before .before .before .before .before .before .before .args) .target) ((c .before .before .before .before .before .before .before .before .before .before .before .before .before .before .before .before .before .args) .expl) (rw ((c .before .before .before .before .before .before .before .before .before .before .before .before .before .before .leaf-fields) .ensures) at ((c .before .before .before .before .before .before .before .before .before .before .before .before .before .put-node) .ensures)) (rw ((c .before .before .before .before .before .before .before .before .before .two-fields) .ensures) at ((c .before .before .before .before .before .before .before .before .put-node2) .ensures)) (rw ((c .before .before .before .before .two-fields2) .ensures) at ((c .before .before .before .put-node3) .ensures)) ((c .before .before .before .before .before .before .before .before .before .before .before .before .before .before .before .before .before .pre) .1) ((c .before .before .before .before .before .before .before .before .before .before .before .before .before .before .before .before .before .pre) .2)
 
 pub make-explained-spec : {M : Type 1} → statement M
 make-explained-spec =
     tie.close
     (tie.spec
+    leaf-fields-requires
     put-node-requires
     add-put-node
+    two-fields-requires
     put-node-requires-2
     add-put-node-2
+    two-fields-requires-2
     add-put-node-3
     put-node-requires-3
     done-requires

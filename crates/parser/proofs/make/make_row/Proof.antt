@@ -7,6 +7,7 @@ use Rattle.parser.proofs.make.make_row.Statement.{statement}
 use Rattle.parser.proofs.make.make_row.Tie as tie
 use Rattle.parser.proofs.make.make_row.Reads as reads
 use Rattle.parser.proofs.make.make_row.Lts as lts
+use Rattle.ast.proofs.codes.row_fields.Reads as row-fields-reads
 use Rattle.parser.proofs.make.done.Reads as done-reads
 use Rattle.parser.proofs.make.put_node.Reads as put-node-reads
 
@@ -14,8 +15,11 @@ returns : tie.Need-returns
 returns c =
     group-of-one ((c .before .before .args) .store .now) ((c .before .before .args) .p) ((c .before .before .args) .first) ((c .before .before .args) .count) ((c .if1) .taken)
 
-cast-t9 : tie.Need-cast-t9
-cast-t9 c = search needs
+cast-row-fields : tie.Need-cast-row-fields
+cast-row-fields c = search needs
+
+row-fields-requires : tie.Need-row-fields-requires
+row-fields-requires c κs = search needs
 
 put-node-requires : tie.Need-put-node-requires
 put-node-requires c κs = search needs
@@ -28,8 +32,16 @@ same-length c = search needs
 
 returns-2 : tie.Need-returns-2
 returns-2 c =
-    group-made ((c .before .before .before .before .before .before .before .args) .p) ((c .before .before .before .before .before .before .before .args) .first) ((c .before .before .before .before .before .before .before .args) .count) ((c .before .before .before .before .before .if1) .left) ((c .before .before .before .put-node) .ensures) ((c .done) .ensures)
+    group-made ((c .before .before .before .before .before .before .before .before .args) .p) ((c .before .before .before .before .before .before .before .before .args) .first) ((c .before .before .before .before .before .before .before .before .args) .count) ((c .before .before .before .before .before .before .if1) .left) (rw ((c .before .before .before .before .row-fields) .ensures) at ((c .before .before .before .put-node) .ensures)) ((c .done) .ensures)
 
 pub make-row-spec : {M : Type 1} → statement M
 make-row-spec =
-    tie.close (tie.spec returns cast-t9 put-node-requires done-requires same-length returns-2)
+    tie.close
+    (tie.spec
+    returns
+    cast-row-fields
+    row-fields-requires
+    put-node-requires
+    done-requires
+    same-length
+    returns-2)

@@ -1,6 +1,6 @@
 -- `parser::make::make_stretched` meets its contract.
 -- Assumes nothing.
-use Rattle.parser.proofs.MakeLaws.{stretched-leaf, stretched-none}
+use Rattle.parser.proofs.MakeLaws.{stretched-as, stretched-none}
 use Rattle.parser.specs.Parse.{stretched}
 use borrow.Author.Needs.{needs}
 use native.Mathlib.Omega.{arith}
@@ -8,28 +8,35 @@ use Rattle.parser.proofs.make.make_stretched.Statement.{statement}
 use Rattle.parser.proofs.make.make_stretched.Tie as tie
 use Rattle.parser.proofs.make.make_stretched.Reads as reads
 use Rattle.parser.proofs.make.make_stretched.Lts as lts
+use Rattle.ast.proofs.codes.role_of.Reads as role-of-reads
 use Rattle.ast.proofs.store.get_record.Reads as get-record-reads
-use Rattle.parser.proofs.make.make_stretched_leaf.Reads as make-stretched-leaf-reads
-use Rattle.ast.proofs.codes.shape_of.Reads as shape-of-reads
+use Rattle.parser.proofs.make.make_leaf.Reads as make-leaf-reads
 
 get-record-requires : tie.Need-get-record-requires
 get-record-requires c κs = search needs
 
-shape-of-requires : tie.Need-shape-of-requires
-shape-of-requires c κs = search needs
+role-of-requires : tie.Need-role-of-requires
+role-of-requires c κs = search needs
 
-enum-known-l : tie.Need-enum-known-l
-enum-known-l c = search needs
+enum-known-c : tie.Need-enum-known-c
+enum-known-c c = search needs
 
-make-stretched-leaf-requires : tie.Need-make-stretched-leaf-requires
-make-stretched-leaf-requires c κs = search needs
+make-leaf-requires : tie.Need-make-leaf-requires
+make-leaf-requires c κs = search needs
+
+enum-known-t : tie.Need-enum-known-t
+enum-known-t c = search needs
+
+make-leaf-requires-2 : tie.Need-make-leaf-requires-2
+make-leaf-requires-2 c κs = search needs
 
 same-length : tie.Need-same-length
 same-length c = search needs
 
 returns : tie.Need-returns
+unfolding stretched
 returns c =
-    λ lo n g h. rw (stretched-leaf ((c .before .before .before .before .before .before .before .before .before .before .before .args) .store .now) ((c .before .before .before .before .before .before .before .before .before .before .before .args) .i) ((c .before .before .before .before .before .before .before .before .get-record) .ensures .0) ((c .before .before .before .before .before .before .before .shape-of) .ensures) ((c .before .before .before .before .before .l) .given .0 .0) ((c .before .before .before .before .before .l) .given .1) lo n h) ((c .before .before .make-stretched-leaf) .ensures lo g)
+    λ lo n g h. rw (stretched-as ((c .before .before .before .before .before .before .before .before .before .before .before .args) .store .now) ((c .before .before .before .before .before .before .before .before .before .before .before .args) .i) ((c .before .before .before .before .before .before .before .before .get-record) .ensures .0) ((c .before .before .before .before .before .before .before .role-of) .ensures) _ ((c .before .before .before .before .before .c) .given .1) lo n h) ((c .before .before .make-leaf) .ensures lo g)
 
 same-length-2 : tie.Need-same-length-2
 same-length-2 c = search needs
@@ -37,17 +44,29 @@ same-length-2 c = search needs
 returns-2 : tie.Need-returns-2
 unfolding stretched
 returns-2 c =
-    λ lo n g h. rw (stretched-none ((c .before .before .before .before .before .args) .store .now) ((c .before .before .before .before .before .args) .i) ((c .before .before .get-record) .ensures .0) ((c .before .shape-of) .ensures) ((c .match) .keys2) lo n h)
+    λ lo n g h. rw (stretched-as ((c .before .before .before .before .before .before .before .before .before .before .before .args) .store .now) ((c .before .before .before .before .before .before .before .before .before .before .before .args) .i) ((c .before .before .before .before .before .before .before .before .get-record) .ensures .0) ((c .before .before .before .before .before .before .before .role-of) .ensures) _ ((c .before .before .before .before .before .t) .given .1) lo n h) ((c .before .before .make-leaf2) .ensures lo g)
+
+same-length-3 : tie.Need-same-length-3
+same-length-3 c = search needs
+
+returns-3 : tie.Need-returns-3
+unfolding stretched
+returns-3 c =
+    λ lo n g h. rw (stretched-none ((c .before .before .before .before .before .args) .store .now) ((c .before .before .before .before .before .args) .i) ((c .before .before .get-record) .ensures .0) ((c .before .role-of) .ensures) ((c .match) .keys3) lo n h)
 
 pub make-stretched-spec : {M : Type 1} → statement M
 make-stretched-spec =
     tie.close
     (tie.spec
     get-record-requires
-    shape-of-requires
-    enum-known-l
-    make-stretched-leaf-requires
+    role-of-requires
+    enum-known-c
+    make-leaf-requires
+    enum-known-t
+    make-leaf-requires-2
     same-length
     returns
     same-length-2
-    returns-2)
+    returns-2
+    same-length-3
+    returns-3)

@@ -7,11 +7,7 @@ use Rattle.parser.proofs.make.put_node.Statement.{statement}
 use Rattle.parser.proofs.make.put_node.Tie as tie
 use Rattle.parser.proofs.make.put_node.Reads as reads
 use Rattle.parser.proofs.make.put_node.Lts as lts
-use Rattle.ast.proofs.codes.fields.Reads as fields-reads
 use Rattle.ast.proofs.store.put_record.Reads as put-record-reads
-
-fields-requires : tie.Need-fields-requires
-fields-requires c κs = search needs
 
 put-record-requires : tie.Need-put-record-requires
 put-record-requires c κs = search needs
@@ -21,8 +17,7 @@ same-length c = search needs
 
 returns : tie.Need-returns
 unfolding nodeRecord
-returns c =
-    rw (← (c .before .before .before .before .fields) .ensures) ((c .before .before .put-record) .ensures)
+returns c = (c .before .before .put-record) .ensures
 
 pub put-node-spec : {M : Type 1} → statement M
-put-node-spec = tie.close (tie.spec fields-requires put-record-requires same-length returns)
+put-node-spec = tie.close (tie.spec put-record-requires same-length returns)
