@@ -2,5 +2,6 @@ pub mod ClassLaws
 pub mod LettersLaws
 pub mod NameLaws
 pub mod NextLaws
+pub mod ReaderLaws
 pub mod RunLaws
 pub mod TokenLaws

@@ -1,5 +1,6 @@
 // The lexer: the Rust's lexer.rs, over bytes.
 pub mod letters;
+pub mod reader;
 
 use attribute::Variant;
 use text::code_point;
