@@ -1,5 +1,5 @@
 // The letters at the head of a text, which the Rust's parse_text reads.
-use crate::Cursor;
+use crate::reader::token_from;
 use text::put::put_code_point;
 use token::Token;
 ghost use lib.ListN.{length};
@@ -15,7 +15,7 @@ pub fn put_letters(t: &[u8], out: &mut [u8], at: usize, write: bool) -> usize
     let mut i = 0;
     loop {
         let rest = &t[i..];
-        let l = Cursor { at: 0 }.next_token(rest);
+        let l = token_from(rest, 0);
         let token = l.token;
         match token {
             Token::Letter(c, _) => {

@@ -20,8 +20,8 @@ pub struct Lexeme {
 }
 
 // A place in the body.
-pub struct Cursor {
-    pub at: usize,
+struct Cursor {
+    at: usize,
 }
 
 fn is_whitespace(b: u8) -> bool
@@ -65,7 +65,7 @@ impl Lexeme {
 
 impl Cursor {
     // Past the whitespace.
-    pub fn skip_whitespace(self, s: &[u8]) -> Cursor
+    fn skip_whitespace(self, s: &[u8]) -> Cursor
         requires { ⌜ self .at ≤ length (now s) ⌝ }
         ensures { λ r. ⌜ (r .at ≡ self .at + skipWhitespace (drop (self .at) (now (s .entry)))) × (r .at ≤ length (now (s .entry))) ⌝ }
     {
@@ -221,7 +221,7 @@ impl Cursor {
     }
 
     // The next token, from the first byte that is no whitespace.
-    pub fn next_token(self, s: &[u8]) -> Lexeme
+    fn next_token(self, s: &[u8]) -> Lexeme
         requires { ⌜ self .at ≤ length (now s) ⌝ }
         ensures { λ r. ⌜ (r ≡ nextToken (self .at) (drop (self .at) (now (s .entry)))) × (r .end ≤ length (now (s .entry))) ⌝ }
     {

@@ -54,7 +54,7 @@ impl<'a> Lexer<'a> {
     }
 }
 
-// The token of a text from a place on: whoever calls this needs no lexer of his own.
+// The token of a text from a place on, for callers that hold no lexer: a function over plain parameters needs no proof by hand.
 pub fn token_from(input: &[u8], at: usize) -> Lexeme
     requires { ⌜ at ≤ length (now input) ⌝ }
     ensures { λ r. ⌜ (r ≡ nextToken at (drop at (now (input .entry)))) × (r .end ≤ length (now (input .entry))) ⌝ }

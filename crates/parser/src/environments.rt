@@ -1,7 +1,7 @@
 // The environments that `\begin` knows.
 use crate::Environment;
 use attribute::ColumnAlign;
-use lexer::Cursor;
+use lexer::reader::token_from;
 use token::Token;
 ghost use mathlib.Core.Path.{_≡_};
 ghost use Rattle.lexer.specs.Letters.{letters};
@@ -15,7 +15,7 @@ fn spells(t: &[u8], name: &[u8]) -> bool
     let mut k = 0;
     loop {
         let rest = &t[i..];
-        let l = Cursor { at: 0 }.next_token(rest);
+        let l = token_from(rest, 0);
         let token = l.token;
         match token {
             Token::Letter(c, _) => {

@@ -7,9 +7,9 @@ use crate::marks::is_letter;
 use crate::marks::token_is;
 use attribute::ColumnAlign;
 use error::Refusal;
-use lexer::Cursor;
 use lexer::Lexeme;
 use lexer::is_digit;
+use lexer::reader::token_from;
 use token::Binomial;
 use token::Mark;
 use token::Token;
@@ -100,7 +100,7 @@ fn following(t: Token, s: &[u8], at: usize) -> Lexeme
             end: at + 1,
         };
     }
-    Cursor { at: at }.next_token(s)
+    token_from(s, at)
 }
 
 impl Parser {

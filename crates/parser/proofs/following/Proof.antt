@@ -7,7 +7,7 @@ use Rattle.parser.proofs.following.Statement.{statement}
 use Rattle.parser.proofs.following.Tie as tie
 use Rattle.parser.proofs.following.Reads as reads
 use Rattle.parser.proofs.following.Lts as lts
-use Rattle.lexer.proofs.Cursor.next_token.Reads as next-token-reads
+use Rattle.lexer.proofs.reader.token_from.Reads as token-from-reads
 use Rattle.parser.proofs.takes_digit.Reads as takes-digit-reads
 
 takes-digit-requires : tie.Need-takes-digit-requires
@@ -23,14 +23,14 @@ returns : tie.Need-returns
 unfolding following
 returns c = rw (following, ← (c .before .takes-digit) .ensures, (c .if1) .taken, add-one)
 
-next-token-requires : tie.Need-next-token-requires
-next-token-requires c κs = search needs
+token-from-requires : tie.Need-token-from-requires
+token-from-requires c κs = search needs
 
 returns-2 : tie.Need-returns-2
 unfolding following
 returns-2 c =
-    rw (following, ← (c .before .before .takes-digit) .ensures, (c .before .if1) .left) ((c .next-token) .ensures .0)
+    rw (following, ← (c .before .before .takes-digit) .ensures, (c .before .if1) .left) ((c .token-from) .ensures .0)
 
 pub following-spec : {M : Type 1} → statement M
 following-spec =
-    tie.close (tie.spec takes-digit-requires add-t5 add-t7 returns next-token-requires returns-2)
+    tie.close (tie.spec takes-digit-requires add-t5 add-t7 returns token-from-requires returns-2)

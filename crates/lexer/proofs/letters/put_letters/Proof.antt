@@ -10,7 +10,7 @@ use Rattle.lexer.proofs.letters.put_letters.Statement.{statement}
 use Rattle.lexer.proofs.letters.put_letters.Tie as tie
 use Rattle.lexer.proofs.letters.put_letters.Reads as reads
 use Rattle.lexer.proofs.letters.put_letters.Lts as lts
-use Rattle.lexer.proofs.Cursor.next_token.Reads as next-token-reads
+use Rattle.lexer.proofs.reader.token_from.Reads as token-from-reads
 use Rattle.text.proofs.put.put_code_point.Reads as put-code-point-reads
 
 abbrev Inv-loop : tie.InvT-loop
@@ -32,27 +32,27 @@ part-rest-start c = (c .loop) .inv .inside
 part-rest-end : tie.Need-part-rest-end Inv-loop μ-loop
 part-rest-end c = search needs
 
-next-token-requires : tie.Need-next-token-requires Inv-loop μ-loop
-next-token-requires c κs = search needs
+token-from-requires : tie.Need-token-from-requires Inv-loop μ-loop
+token-from-requires c κs = search needs
 
 enum-known-token : tie.Need-enum-known-token Inv-loop μ-loop
 enum-known-token c = search needs
 
 put-code-point-requires : tie.Need-put-code-point-requires Inv-loop μ-loop
 put-code-point-requires c κs =
-    reading-room (c .before .before .before .before .before .before .before .before .before .pre) ((c .before .before .before .before .before .before .loop) .inv) ((c .before .before .before .before .next-token) .result) ((c .before .before .before .before .next-token) .ensures .0) _ _ ((c .before .before .token) .given .1)
+    reading-room (c .before .before .before .before .before .before .before .before .before .pre) ((c .before .before .before .before .before .before .loop) .inv) ((c .before .before .before .before .token-from) .result) ((c .before .before .before .before .token-from) .ensures .0) _ _ ((c .before .before .token) .given .1)
 
 add-i : tie.Need-add-i Inv-loop μ-loop
 add-i c = search needs
 
 loop-less : tie.Need-loop-less Inv-loop μ-loop
 loop-less c =
-    let inside = letter-inside ((c .before .before .before .before .before .before .before .before .before .before .before .before .before .args) .t .now) ((c .before .before .before .before .before .before .before .before .before .before .loop) .i) ((c .before .before .before .before .before .before .before .before .before .before .loop) .inv .inside) ((c .before .before .before .before .before .before .before .before .next-token) .result) ((c .before .before .before .before .before .before .before .before .next-token) .ensures .0) _ _ ((c .before .before .before .before .before .before .token) .given .1) in
+    let inside = letter-inside ((c .before .before .before .before .before .before .before .before .before .before .before .before .before .args) .t .now) ((c .before .before .before .before .before .before .before .before .before .before .loop) .i) ((c .before .before .before .before .before .before .before .before .before .before .loop) .inv .inside) ((c .before .before .before .before .before .before .before .before .token-from) .result) ((c .before .before .before .before .before .before .before .before .token-from) .ensures .0) _ _ ((c .before .before .before .before .before .before .token) .given .1) in
     omega arith
 
 loop-again : tie.Need-loop-again Inv-loop μ-loop
 loop-again c =
-    reading-more (c .before .before .before .before .before .before .before .before .before .before .before .before .before .pre) ((c .before .before .before .before .before .before .before .before .before .before .loop) .inv) ((c .before .before .before .before .before .before .before .before .next-token) .result) ((c .before .before .before .before .before .before .before .before .next-token) .ensures .0) _ _ ((c .before .before .before .before .before .before .token) .given .1) ((c .before .before .before .put-code-point) .ensures)
+    reading-more (c .before .before .before .before .before .before .before .before .before .before .before .before .before .pre) ((c .before .before .before .before .before .before .before .before .before .before .loop) .inv) ((c .before .before .before .before .before .before .before .before .token-from) .result) ((c .before .before .before .before .before .before .before .before .token-from) .ensures .0) _ _ ((c .before .before .before .before .before .before .token) .given .1) ((c .before .before .before .put-code-point) .ensures)
 
 same-length : tie.Need-same-length Inv-loop μ-loop
 same-length c =
@@ -60,7 +60,7 @@ same-length c =
 
 returns : tie.Need-returns Inv-loop μ-loop
 returns c =
-    reading-all ((c .before .before .before .loop) .inv) ((c .before .next-token) .result) ((c .before .next-token) .ensures .0) (no-letter ((c .before .next-token) .result .token) ((c .match) .keys2))
+    reading-all ((c .before .before .before .loop) .inv) ((c .before .token-from) .result) ((c .before .token-from) .ensures .0) (no-letter ((c .before .token-from) .result .token) ((c .match) .keys2))
 
 pub put-letters-spec : {M : Type 1} → statement M
 put-letters-spec =
@@ -72,7 +72,7 @@ put-letters-spec =
     sub-rest
     part-rest-start
     part-rest-end
-    next-token-requires
+    token-from-requires
     enum-known-token
     put-code-point-requires
     add-i

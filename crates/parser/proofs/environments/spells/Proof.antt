@@ -11,7 +11,7 @@ use Rattle.parser.proofs.environments.spells.Statement.{statement}
 use Rattle.parser.proofs.environments.spells.Tie as tie
 use Rattle.parser.proofs.environments.spells.Reads as reads
 use Rattle.parser.proofs.environments.spells.Lts as lts
-use Rattle.lexer.proofs.Cursor.next_token.Reads as next-token-reads
+use Rattle.lexer.proofs.reader.token_from.Reads as token-from-reads
 
 abbrev Inv-loop : tie.InvT-loop
 Inv-loop t name i₀ k₀ i k = Comparing t name i k
@@ -32,15 +32,15 @@ part-rest-start c = (c .loop) .inv .inside
 part-rest-end : tie.Need-part-rest-end Inv-loop μ-loop
 part-rest-end c = search needs
 
-next-token-requires : tie.Need-next-token-requires Inv-loop μ-loop
-next-token-requires c κs = search needs
+token-from-requires : tie.Need-token-from-requires Inv-loop μ-loop
+token-from-requires c κs = search needs
 
 enum-known-token : tie.Need-enum-known-token Inv-loop μ-loop
 enum-known-token c = search needs
 
 returns : tie.Need-returns Inv-loop μ-loop
 returns c =
-    sym (comparing-past ((c .before .before .before .before .before .before .loop) .inv) ((c .before .before .before .before .next-token) .result) ((c .before .before .before .before .next-token) .ensures .0) _ _ ((c .before .before .token) .given .1) (omega arith))
+    sym (comparing-past ((c .before .before .before .before .before .before .loop) .inv) ((c .before .before .before .before .token-from) .result) ((c .before .before .before .before .token-from) .ensures .0) _ _ ((c .before .before .token) .given .1) (omega arith))
 
 shared-slice-read-if2 : tie.Need-shared-slice-read-if2 Inv-loop μ-loop
 shared-slice-read-if2 c = search needs
@@ -51,7 +51,7 @@ cast-if2 c =
 
 returns-2 : tie.Need-returns-2 Inv-loop μ-loop
 returns-2 c =
-    sym (comparing-other ((c .before .before .before .before .before .before .before .before .loop) .inv) ((c .before .before .before .before .before .before .next-token) .result) ((c .before .before .before .before .before .before .next-token) .ensures .0) _ _ ((c .before .before .before .before .token) .given .1) (omega arith) (λ e. omega arith))
+    sym (comparing-other ((c .before .before .before .before .before .before .before .before .loop) .inv) ((c .before .before .before .before .before .before .token-from) .result) ((c .before .before .before .before .before .before .token-from) .ensures .0) _ _ ((c .before .before .before .before .token) .given .1) (omega arith) (λ e. omega arith))
 
 add-k : tie.Need-add-k Inv-loop μ-loop
 add-k c = search needs
@@ -61,16 +61,16 @@ add-i c = search needs
 
 loop-less : tie.Need-loop-less Inv-loop μ-loop
 loop-less c =
-    let inside = more-inside ((c .before .before .before .before .before .before .before .before .before .loop) .inv) ((c .before .before .before .before .before .before .before .next-token) .result) ((c .before .before .before .before .before .before .before .next-token) .ensures .0) _ _ ((c .before .before .before .before .before .token) .given .1) in
+    let inside = more-inside ((c .before .before .before .before .before .before .before .before .before .loop) .inv) ((c .before .before .before .before .before .before .before .token-from) .result) ((c .before .before .before .before .before .before .before .token-from) .ensures .0) _ _ ((c .before .before .before .before .before .token) .given .1) in
     omega arith
 
 loop-again : tie.Need-loop-again Inv-loop μ-loop
 loop-again c =
-    comparing-more ((c .before .before .before .before .before .before .before .before .before .loop) .inv) ((c .before .before .before .before .before .before .before .next-token) .result) ((c .before .before .before .before .before .before .before .next-token) .ensures .0) _ _ ((c .before .before .before .before .before .token) .given .1) (omega arith) (omega arith)
+    comparing-more ((c .before .before .before .before .before .before .before .before .before .loop) .inv) ((c .before .before .before .before .before .before .before .token-from) .result) ((c .before .before .before .before .before .before .before .token-from) .ensures .0) _ _ ((c .before .before .before .before .before .token) .given .1) (omega arith) (omega arith)
 
 returns-3 : tie.Need-returns-3 Inv-loop μ-loop
 returns-3 c =
-    sym (comparing-end ((c .before .before .before .loop) .inv) ((c .before .next-token) .result) ((c .before .next-token) .ensures .0) (no-letter ((c .before .next-token) .result .token) ((c .match) .keys2)))
+    sym (comparing-end ((c .before .before .before .loop) .inv) ((c .before .token-from) .result) ((c .before .token-from) .ensures .0) (no-letter ((c .before .token-from) .result .token) ((c .match) .keys2)))
 
 pub spells-spec : {M : Type 1} → statement M
 spells-spec =
@@ -82,7 +82,7 @@ spells-spec =
     sub-rest
     part-rest-start
     part-rest-end
-    next-token-requires
+    token-from-requires
     enum-known-token
     returns
     shared-slice-read-if2
