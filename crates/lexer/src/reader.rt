@@ -8,11 +8,12 @@ ghost use lib.ListN.{length, drop};
 ghost use Rattle.lexer.specs.Lex.{nextToken};
 
 pub struct Lexer<'a> {
-    pub input: &'a [u8],
-    pub at: usize,
+    input: &'a [u8],
+    at: usize,
 }
 
 impl<'a> Lexer<'a> {
+    // A lexer at the start of a text.
     pub fn new(input: &'a [u8]) -> Lexer<'a>
         ensures { λ r. ⌜ (r .input ≡ input .entry) × (r .at ≡ 0) ⌝ }
     {
@@ -33,7 +34,7 @@ impl<'a> Lexer<'a> {
         self.input
     }
 
-    // The token at the place, whose end is the next place.
+    // The token at the place; its end is the next place.
     pub fn next_token(self) -> Lexeme
         requires { ⌜ self .at ≤ length (now (self .input)) ⌝ }
         ensures { λ r. ⌜ (r ≡ nextToken (self .entry .at) (drop (self .entry .at) (now (self .entry .input)))) × (r .end ≤ length (now (self .entry .input))) ⌝ }
@@ -41,7 +42,7 @@ impl<'a> Lexer<'a> {
         Cursor { at: self.at }.next_token(self.input)
     }
 
-    // The lexer behind the token at the place.
+    // The lexer moved past that token.
     pub fn moved(self) -> Lexer<'a>
         requires { ⌜ self .at ≤ length (now (self .input)) ⌝ }
         ensures { λ r. ⌜ (r .input ≡ self .entry .input) × (r .at ≡ nextToken (self .entry .at) (drop (self .entry .at) (now (self .entry .input))) .end) × (r .at ≤ length (now (self .entry .input))) ⌝ }
@@ -54,7 +55,7 @@ impl<'a> Lexer<'a> {
     }
 }
 
-// The token of a text from a place on, for callers that hold no lexer: a function over plain parameters needs no proof by hand.
+// The token of a text from a place on: with plain parameters, so that callers need no proof by hand.
 pub fn token_from(input: &[u8], at: usize) -> Lexeme
     requires { ⌜ at ≤ length (now input) ⌝ }
     ensures { λ r. ⌜ (r ≡ nextToken at (drop at (now (input .entry)))) × (r .end ≤ length (now (input .entry))) ⌝ }

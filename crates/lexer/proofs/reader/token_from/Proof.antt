@@ -1,5 +1,4 @@
--- `lexer::reader::token_from` meets its contract: a walk of its MIR, by hand. A `Lexer` is made in a local and passed to `next_token`, of which all that the proof knows is that it meets its contract.
--- In a local of a body MIR erases the lifetime of the struct's type; what the struct owns does not say the lifetime's name.
+-- `lexer::reader::token_from` meets its contract, walked by hand: a `Lexer` is made in a local, where MIR erases its lifetime, and passed to `next_token`.
 -- Assumes nothing.
 use mathlib.Core.Path.{refl}
 use Prim.Native.Nat.{ℕ, _≤_, _<_, _^_}

@@ -1,5 +1,4 @@
--- `lexer::reader::Lexer::at` meets its contract: a walk of its MIR, by hand. A number is read from a field of the struct, and the struct is seen at exit as it was passed.
--- That the number fits its type is in the struct's relation, at the field's place.
+-- `lexer::reader::Lexer::at` meets its contract, walked by hand: the number is read from the struct, which is kept whole for the exit.
 -- Assumes nothing.
 use mathlib.Core.Path.{refl}
 use Prim.Native.Nat.{_<_, _^_}

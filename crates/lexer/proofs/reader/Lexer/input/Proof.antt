@@ -1,5 +1,4 @@
--- `lexer::reader::Lexer::input` meets its contract: a walk of its MIR, by hand. The slice that the struct holds is handed back.
--- The struct is Copy: what it owns is had twice, one copy is kept whole for the exit, and of the other what input owns is taken, for the result.
+-- `lexer::reader::Lexer::input` meets its contract, walked by hand: of two copies of what the struct owns one is kept for the exit, and of the other input's part is the result's.
 -- Assumes nothing.
 use mathlib.Core.Path.{_≡_, refl}
 use mathlib.Core.List.{[], _∷_}

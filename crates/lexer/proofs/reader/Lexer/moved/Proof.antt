@@ -1,5 +1,4 @@
--- `lexer::reader::Lexer::moved` meets its contract: a walk of its MIR, by hand. A copy of the struct is passed to `next_token`, and a struct is made anew of the slice and the end of the token that comes back.
--- The struct is Copy: what it owns is had twice for the call and twice for the exit, where the end's facts take the place of at's.
+-- `lexer::reader::Lexer::moved` meets its contract, walked by hand: in a copy of the struct the end of the token that `next_token` answers takes the place of at.
 -- Assumes nothing.
 use mathlib.Core.Path.{refl, ap}
 use Prim.Native.Nat.{_≤_, _<_, _^_}

@@ -1,5 +1,4 @@
--- `lexer::reader::Lexer::new` meets its contract: a walk of its MIR, by hand. A `Lexer` is made of the slice passed and 0, in the result's local.
--- A `&[u8]` is Copy, so what it owns is had twice: once for input at exit, and once inside the result, beside the facts of at.
+-- `lexer::reader::Lexer::new` meets its contract, walked by hand: a `&[u8]` is Copy, so what it owns is had twice, for input at exit and inside the result.
 -- Assumes nothing.
 use mathlib.Core.Path.{refl}
 use Prim.Native.Nat.{ℕ}

@@ -1,5 +1,4 @@
--- `lexer::reader::Lexer::next_token` meets its contract: a walk of its MIR, by hand. The struct is taken apart, a cursor is made of the place, and the cursor's `next_token` is called on it and the slice.
--- The struct is Copy: what it owns is had twice, one copy is kept whole for the exit, and of the other what input owns goes to the callee, beside the lifetime's token, which comes back.
+-- `lexer::reader::Lexer::next_token` meets its contract, walked by hand: of two copies of what the struct owns one is kept for the exit, and of the other input's part goes to the cursor's `next_token`.
 -- Assumes nothing.
 use mathlib.Core.Path.{_≡_, refl}
 use Prim.Native.Nat.{_≤_, _<_, _^_}
