@@ -1,7 +1,9 @@
 -- `vectors::replay_all` meets its contract.
 -- Assumes nothing.
-use Prim.Native.Nat.{_-_, _≤_}
+use Rattle.vectors.proofs.CountLaws.{weaken}
+use Rattle.vectors.specs.Counts.{AtMost}
 use lib.ListN.{length}
+use Prim.Native.Nat.{_-_, _*_, _≤_}
 use borrow.Author.Needs.{needs}
 use native.Mathlib.Omega.{arith}
 use Rattle.vectors.proofs.replay_all.Statement.{statement}
@@ -11,10 +13,10 @@ use Rattle.vectors.proofs.replay_all.Lts as lts
 use Rattle.vectors.proofs.replay.Reads as replay-reads
 
 abbrev Inv-loop : tie.InvT-loop
-Inv-loop input start₀ i₀ start i = (start ≤ i) × (i ≤ length input)
+Inv-loop list tally₀ start₀ i₀ tally start i = (start ≤ i) × (i ≤ length list) × (length list ≤ 524288) × AtMost tally (3 * i)
 
 abbrev μ-loop : tie.MeasureT-loop
-μ-loop input start₀ i₀ start i = length input - i
+μ-loop list tally₀ start₀ i₀ tally start i = length list - i
 
 loop-holds : tie.Need-loop-holds Inv-loop μ-loop
 loop-holds c = search needs
@@ -41,7 +43,7 @@ loop-less : tie.Need-loop-less Inv-loop μ-loop
 loop-less c = search needs
 
 loop-again : tie.Need-loop-again Inv-loop μ-loop
-loop-again c = search needs
+loop-again c = (search needs, search needs, search needs, weaken (c .replay .ensures (3 * c .before .before .before .before .before .loop .i) (c .before .before .before .before .before .loop .inv .3)) (omega arith))
 
 add-i-2 : tie.Need-add-i-2 Inv-loop μ-loop
 add-i-2 c = search needs
