@@ -1,5 +1,6 @@
 pub mod HeldLaws
 pub mod KindLaws
+pub mod PlainLaws
 pub mod RowLaws
 pub mod ShapeLaws
 pub mod StoreLaws

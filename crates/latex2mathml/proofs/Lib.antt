@@ -6,3 +6,4 @@ pub mod PlaceLaws
 pub mod DollarLaws
 pub mod PassLaws
 pub mod ReplaceLaws
+pub mod PlainLaws

@@ -45,7 +45,7 @@ pub fn is_digit(b: u8) -> bool
     }
 }
 
-fn is_alphabetic(b: u8) -> bool
+pub fn is_alphabetic(b: u8) -> bool
     ensures { λ r. ⌜ r ≡ isAlphabetic b ⌝ }
 {
     match b {

@@ -1,4 +1,5 @@
 pub mod FrontLaws
 pub mod LeafLaws
+pub mod PlainLaws
 pub mod PrintLaws
 pub mod ShortLaws

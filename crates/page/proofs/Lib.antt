@@ -1,6 +1,16 @@
 pub mod BreakLaws
+pub mod CutLaws
 pub mod PieceLaws
 pub mod ParagraphLaws
 pub mod DraftLaws
 pub mod WriteLaws
 pub mod PageLaws
+pub mod DollarRunLaws
+pub mod MarkLaws
+pub mod OutcomeLaws
+pub mod PassLaws
+pub mod SpanLaws
+pub mod TidyLaws
+pub mod SharedLaws
+pub mod DemandLaws
+pub mod DemandExamples

@@ -17,8 +17,8 @@ use Rattle.latex2mathml.specs.Laid.{Laid, Lays, Fits, WrittenThere, growth, AtM
 use Rattle.page.specs.Page.{shown, left}
 use Rattle.page.specs.Marks.{Drafted}
 
--- what the replacement gives, with its outcome as an equation
-by-outcome : {P : Type 0} (w : Outcome (List ℕ)) → ((text : List ℕ) → w ≡ accepted text → P) → ((r : Refusal) → w ≡ refused r → P) → P
+-- an outcome, as an equation
+pub by-outcome : {A P : Type 0} (w : Outcome A) → ((text : A) → w ≡ accepted text → P) → ((r : Refusal) → w ≡ refused r → P) → P
 by-outcome (accepted text) f g = f text refl
 by-outcome (refused r) f g = g r refl
 
@@ -30,19 +30,19 @@ laid-next d d′ bs at n place fits laid =
 
 module _ (p : List ℕ) (store work : ℕ) where
   -- the paragraph is replaced, or left as typed
-  shown-replaced : (text : List ℕ) → replacement p store work ≡ accepted text → shown store work p ≡ text
+  pub shown-replaced : (text : List ℕ) → replacement p store work ≡ accepted text → shown store work p ≡ text
   unfolding shown
   shown-replaced text e = rw (shown, e)
 
-  left-replaced : (text : List ℕ) → replacement p store work ≡ accepted text → left store work p ≡ 0
+  pub left-replaced : (text : List ℕ) → replacement p store work ≡ accepted text → left store work p ≡ 0
   unfolding left
   left-replaced text e = rw (left, e)
 
-  shown-typed : (r : Refusal) → replacement p store work ≡ refused r → shown store work p ≡ p
+  pub shown-typed : (r : Refusal) → replacement p store work ≡ refused r → shown store work p ≡ p
   unfolding shown
   shown-typed r e = rw (shown, e)
 
-  left-typed : (r : Refusal) → replacement p store work ≡ refused r → left store work p ≡ 1
+  pub left-typed : (r : Refusal) → replacement p store work ≡ refused r → left store work p ≡ 1
   unfolding left
   left-typed r e = rw (left, e)
 

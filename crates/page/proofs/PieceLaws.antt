@@ -8,15 +8,16 @@ use native.Mathlib.Numerals.{add-one}
 use native.Mathlib.Nat.{add-zero}
 use native.Mathlib.Omega.{arith}
 use lib.Dec.{eqb}
-use lib.ListN.{length, take, drop, getD, replicate, length-replicate, replicate-append-replicate, length-drop, drop-of-length-le}
-use lib.Seq.{drop-cons, drop-drop, take-suc, take-at, append-snoc}
-use borrow.Author.Tests.{lt-ltb, eqb-true, not-true, not-false}
+use lib.ListN.{length, take, drop, getD, length-replicate, length-drop, drop-of-length-le}
+use lib.Seq.{drop-cons, drop-drop, take-suc, take-at}
+use borrow.Author.Tests.{not-true}
 use Rattle.text.specs.Text.{part}
 use Rattle.text.proofs.Cases.{by-test, by-order}
 use Rattle.latex2mathml.specs.Dollars.{nextPlace}
 use Rattle.latex2mathml.proofs.PlaceLaws.{skipped, next-is}
 use Rattle.page.specs.Pieces.{last, piece, lineFeeds, cut, pieces}
 use Rattle.page.specs.Breaks.{lineFeed, twoLineFeeds, noLineFeed}
+use Rattle.page.proofs.CutLaws.{byte-more, feed-more, feeds-more, broken}
 
 -- The next place of a text that begins at `at` lies as far behind `at` as that of the text by itself lies behind 0.
 shifted : (test : List ℕ → Bool) (at : ℕ) (l : List ℕ) → nextPlace test at l ≡ at + nextPlace test 0 l
@@ -27,21 +28,7 @@ shifted test at (b ∷ l) =
     (λ passed. rw (nextPlace, passed, add-zero))
     (λ failed. rw (nextPlace, failed, shifted test (suc at) l, shifted test 1 l) (omega arith))
 
--- a line feed alone belongs to the paragraph
-feed-alone : (p l : List ℕ) → lineFeed l ≡ false → cut p 1 l ≡ cut (p ++ 10 ∷ []) 0 l
-unfolding cut lineFeeds lineFeed
-feed-alone p [] e = ap last (sym (append-nil (p ++ 10 ∷ [])))
-feed-alone p (b ∷ l) e = rw (cut, e, append-nil (p ++ 10 ∷ []))
-
--- a paragraph takes a byte more where no two line feeds stand
-byte-more : (p : List ℕ) (b : ℕ) (l : List ℕ) → twoLineFeeds (b ∷ l) ≡ false → cut p 0 (b ∷ l) ≡ cut (p ++ b ∷ []) 0 l
-unfolding cut lineFeeds twoLineFeeds lineFeed
-byte-more p b l e =
-    by-test (eqb b 10)
-    (λ t. rw (cut, t, eqb-true b 10 t) (feed-alone p l (rw (twoLineFeeds, lineFeed, t) at e)))
-    (λ t. rw (cut, t) (ap (λ q. cut (q ++ b ∷ []) 0 l) (append-nil p)))
-
--- .. and so on up to the first break, or the end
+-- a paragraph takes byte after byte up to the first break, or the end
 up-to-break : (l : List ℕ) → let e = nextPlace twoLineFeeds 0 l in pieces l ≡ cut (take e l) 0 (drop e l)
 unfolding pieces
 up-to-break l =
@@ -50,18 +37,7 @@ up-to-break l =
     0
     (omega arith)
 
--- where a line feed stands the run of line feeds takes it
-feed-more : (p : List ℕ) (n b : ℕ) (l : List ℕ) → noLineFeed (b ∷ l) ≡ false → cut p n (b ∷ l) ≡ cut p (suc n) l
-unfolding cut noLineFeed lineFeed
-feed-more p n b l e = rw (cut, not-false (eqb b 10) e)
-
-feeds-more : (n b : ℕ) (l : List ℕ) → noLineFeed (b ∷ l) ≡ false → lineFeeds n ++ b ∷ l ≡ lineFeeds (suc n) ++ l
-unfolding lineFeeds noLineFeed lineFeed
-feeds-more n b l e =
-    rw (eqb-true b 10 (not-false (eqb b 10) e), ← append-snoc (replicate n 10) 10 l)
-    (ap (λ f. f ++ l) (replicate-append-replicate n 1 10 ∙ ap (λ k. replicate k 10) (add-one n)))
-
--- .. and so on to the end of the run
+-- the run of line feeds takes them to its end
 module _ (l : List ℕ) where
   abbrev run : ℕ
   run = nextPlace noLineFeed 0 l
@@ -99,12 +75,6 @@ run-wide (b ∷ []) e = absurd (false≢true (and-eq-true-iff (eqb b 10) false .
 run-wide (b ∷ (x ∷ l)) e =
     let h = and-eq-true-iff (eqb b 10) (eqb x 10) .0 e in
     rw (nextPlace, noLineFeed, lineFeed, h .0, h .1, shifted noLineFeed 2 l) (omega arith)
-
--- a run of two or more is a break, and the pieces go on behind it
-broken : (p : List ℕ) (n : ℕ) (l : List ℕ) → 1 < n → lineFeed l ≡ false → cut p n l ≡ piece p (lineFeeds n) (pieces l)
-unfolding cut pieces lineFeed lineFeeds
-broken p n [] wide e = rw (cut, lt-ltb 1 n wide)
-broken p n (b ∷ l) wide e = rw (cut, e, lt-ltb 1 n wide)
 
 -- The pieces of a document from a place on, behind which e is the first place of a break, or the end.
 module _ (s : List ℕ) (from e : ℕ) (inside : from ≤ length s) (first : e ≡ nextPlace twoLineFeeds from (drop from s)) where

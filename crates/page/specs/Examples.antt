@@ -13,10 +13,11 @@ use Rattle.page.specs.Breaks.{lineFeed, twoLineFeeds, noLineFeed}
 use Rattle.page.specs.Page.{shown, left, shownAll, paragraphs, leftAll, Paged, page, outputOf, paragraphsOf, leftOf}
 use Rattle.page.specs.Run.{answerOf}
 use Rattle.page.specs.Marks.{marks}
+use Rattle.page.specs.Words.{lengthOf, output, listed, inOrder, paragraphCount, written, typedCount, withByte, withDollar, dollarRuns, lengths, paired, tidy, partsOf, parts, displayOf}
 
 -- whoever unfolds this unfolds all definitions of this crate and of those below it, as an example has to
 unfoldable pub page-opens : Unit {0}
-unfolding latex2mathml-opens lineFeeds cut pieces lineFeed twoLineFeeds noLineFeed shown left shownAll paragraphs leftAll page outputOf paragraphsOf leftOf answerOf marks
+unfolding latex2mathml-opens lineFeeds cut pieces lineFeed twoLineFeeds noLineFeed shown left shownAll paragraphs leftAll page outputOf paragraphsOf leftOf answerOf marks lengthOf output listed inOrder paragraphCount written typedCount withByte withDollar dollarRuns lengths paired tidy partsOf parts displayOf
 page-opens = tt
 
 -- one line feed is no break, a break takes the whole run, and a paragraph may be empty

@@ -1,6 +1,9 @@
 pub mod Pieces
 pub mod Breaks
+pub mod Cut
 pub mod Page
 pub mod Run
 pub mod Marks
+pub mod Words
+pub mod Demand
 pub mod Examples

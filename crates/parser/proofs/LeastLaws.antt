@@ -201,7 +201,7 @@ token-lies s at h =
     let enough = w .enough in
     rw (tokenAt, a, b, d) (record { from = omega arith; wide = omega arith; inside = z .inside; places = w .places }))))
 
-next-lies : (s : List ℕ) (at : ℕ) → at ≤ length s → Lies s at (nextToken at (drop at s))
+pub next-lies : (s : List ℕ) (at : ℕ) → at ≤ length s → Lies s at (nextToken at (drop at s))
 next-lies s at h =
     let here = at + skipWhitespace (drop at s) in
     let spans = next-spans s at h in

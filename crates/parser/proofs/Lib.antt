@@ -2,8 +2,10 @@ pub mod LeastLaws
 pub mod MoveLaws
 pub mod TreeLaws
 pub mod KeepLaws
+pub mod AlphabeticLaws
 pub mod ArmLaws
 pub mod BodyLaws
+pub mod PlainLaws
 pub mod MarkLaws
 pub mod TextLaws
 pub mod EnvironmentLaws

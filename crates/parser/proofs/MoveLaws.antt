@@ -81,7 +81,7 @@ mark-byte t m some-mark e =
     let z : 0 ≡ markNumber m = eqb-true 0 (markNumber m) (rw (tokenIs, q) at e) in
     omega arith)
 
-letter-byte : (t : Token) (c : ℕ) → letterOf t ≡ some c → 1 ≤ least t
+pub letter-byte : (t : Token) (c : ℕ) → letterOf t ≡ some c → 1 ≤ least t
 unfolding letterOf
 letter-byte t c e = takes-byte t (λ q. let z : _≡_ {A = Option ℕ} none (some c) = rw q at e in never (cc))
 

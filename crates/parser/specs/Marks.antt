@@ -7,7 +7,7 @@ use Rattle.token.specs.declared.Token.{Token}
 use Rattle.token.specs.declared.Token.the-variants.{EOF, Begin, End, Ampersand, NewLine, Left, Right, Middle, Paren, LBrace, RBrace, Frac, Underscore, Circumflex, Binom, Overset, Underset, Overbrace, Underbrace, Sqrt, Integral, Lim, Space, Style, Big, Over, Under, Operator, BigOp, Letter, Number, Function, OperatorName, Slashed, Text, Command}
 use Rattle.token.specs.declared.Mark.{Mark}
 use Rattle.token.specs.declared.Undefined.{Undefined}
-use Rattle.token.specs.Roles.{letterOf, tokenIs}
+use Rattle.token.specs.Roles.{tokenIs}
 use Rattle.ast.specs.declared.Leaf.{Leaf}
 use Rattle.ast.specs.declared.Two.{Two}
 use Rattle.ast.specs.Tree.{Node}
@@ -15,9 +15,6 @@ use Rattle.parser.specs.declared.Fence.{Fence}
 use Rattle.parser.specs.declared.Script.{Script}
 use Rattle.parser.specs.declared.Limits.{Limits}
 use Rattle.parser.specs.Parse.{Reads, withBelow, withAbove, withBoth}
-
-unfoldable pub isLetter : Token → Bool
-isLetter t = elim (letterOf t) [ none ↦ false | some c ↦ true ]
 
 unfoldable pub fence : Option ℕ → Fence
 fence none = Fence.Missing

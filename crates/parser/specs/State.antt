@@ -1,9 +1,10 @@
 -- The parser's state over a body s, and how it moves: the Rust's `Parser::new`, `next_token` and `parse_text`.
 -- Assumes nothing.
+use mathlib.Core.Path.{_≡_}
 use mathlib.Core.Bool.{Bool, true, false, _&&_}
 use mathlib.Core.List.{List, [], _∷_}
 use mathlib.Core.Option.{none, some}
-use Prim.Native.Nat.{ℕ, zero, suc}
+use Prim.Native.Nat.{ℕ, zero, suc, _+_, _≤_}
 use lib.ListN.{length, drop}
 use Rattle.token.specs.declared.Token.{Token}
 use Rattle.token.specs.declared.Mark.{Mark}
@@ -44,6 +45,15 @@ peekIs p m = tokenIs (p .peek .token) m
 unfoldable pub pastLetters : ℕ → List ℕ → Parser → Parser
 pastLetters zero s p = p
 pastLetters (suc k) s p = elim (letterOf (p .cur .token)) [ none ↦ p | some c ↦ pastLetters k s (next s p) ]
+
+-- the state with l as its current token
+abbrev pub stateAt : List ℕ → Lexeme → ℕ → Parser
+stateAt s l made = record { cur = l; peek = following (l .token) (l .end) (drop (l .end) s); made = made }
+
+-- past the letters from a place on l is the current token, whatever is made and wherever the budget is enough
+abbrev pub PastLetters : List ℕ → ℕ → Lexeme → Type 0
+PastLetters s at l =
+    (k made : ℕ) → length s ≤ at + k → pastLetters k s (stateAt s (nextToken at (drop at s)) made) ≡ stateAt s l made
 
 -- the letters behind the current token, which is passed unseen; each takes a byte or more, so k never runs out
 unfoldable pub parseText : List ℕ → Parser → TextRead

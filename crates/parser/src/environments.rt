@@ -1,19 +1,34 @@
 // The environments that `\begin` knows.
 use crate::Environment;
 use attribute::ColumnAlign;
+use lexer::is_alphabetic;
 use lexer::reader::token_from;
 use token::Token;
 ghost use mathlib.Core.Path.{_≡_};
 ghost use Rattle.lexer.specs.Letters.{letters};
 ghost use Rattle.parser.specs.Environment.{environment, same};
 
-// Whether the letters at the head of a text spell a name.
+// Whether the letters at the head of a text spell a name. An ASCII letter is a token of one byte, and needs no lexer.
 fn spells(t: &[u8], name: &[u8]) -> bool
     ensures { λ r. ⌜ r ≡ same (letters (now (t .entry))) (now (name .entry)) ⌝ }
 {
     let mut i = 0;
     let mut k = 0;
     loop {
+        if i < t.len() {
+            let b = t[i];
+            if is_alphabetic(b) {
+                if k == name.len() {
+                    return false;
+                }
+                if b != name[k] {
+                    return false;
+                }
+                k += 1;
+                i += 1;
+                continue;
+            }
+        }
         let rest = &t[i..];
         let l = token_from(rest, 0);
         let token = l.token;

@@ -3,11 +3,11 @@ pub mod environments;
 pub mod make;
 pub mod marks;
 
-use crate::marks::is_letter;
 use crate::marks::token_is;
 use attribute::ColumnAlign;
 use error::Refusal;
 use lexer::Lexeme;
+use lexer::is_alphabetic;
 use lexer::is_digit;
 use lexer::reader::token_from;
 use token::Binomial;
@@ -18,7 +18,7 @@ ghost use mathlib.Core.Bool.{_&&_};
 ghost use Prim.Native.Nat.{_≤_};
 ghost use lib.ListN.{length, drop};
 ghost use Rattle.token.specs.Command.{actsOnADigit};
-ghost use Rattle.parser.specs.State.{startsWithDigit, following, next, new, curIs, peekIs, parseText};
+ghost use Rattle.parser.specs.State.{startsWithDigit, following, next, new, curIs, peekIs, parseText, PastLetters};
 ghost use Rattle.parser.specs.Sound.{Sound};
 
 // The Rust's `Parser`, by value: the lexer stands at the end of `peek`, and `made` counts the records.
@@ -103,6 +103,30 @@ fn following(t: Token, s: &[u8], at: usize) -> Lexeme
     token_from(s, at)
 }
 
+// The first token from a place on that is no letter. An ASCII letter is a token of one byte, and needs no lexer.
+fn past_letters(s: &[u8], from: usize) -> Lexeme
+    requires { ⌜ from ≤ length (now s) ⌝ }
+    ensures { λ r. ⌜ PastLetters (now (s .entry)) from r × (r .end ≤ length (now (s .entry))) ⌝ }
+{
+    let mut at = from;
+    loop {
+        if at < s.len() {
+            if is_alphabetic(s[at]) {
+                at += 1;
+                continue;
+            }
+        }
+        let l = token_from(s, at);
+        let token = l.token;
+        match token {
+            Token::Letter(_, _) => {
+                at = l.end;
+            }
+            _ => return l,
+        }
+    }
+}
+
 impl Parser {
     // The state before the first token of a body.
     pub fn new(s: &[u8]) -> Parser
@@ -160,20 +184,28 @@ impl Parser {
         requires { ⌜ Sound (now s) self ⌝ }
         ensures { λ r. ⌜ r ≡ parseText (now (s .entry)) self ⌝ }
     {
-        let mut p = self.next_token(s);
-        let begin = p.cur;
-        loop {
-            let cur = p.cur;
-            let token = cur.token;
-            if is_letter(token) {
-                p = p.next_token(s);
-            } else {
-                return TextRead {
+        let begin = self.peek;
+        let token = begin.token;
+        match token {
+            Token::Letter(_, _) => {
+                let last = past_letters(s, begin.end);
+                let behind = last.token;
+                let peek = following(behind, s, last.end);
+                TextRead {
                     a: begin.start,
-                    e: cur.start,
-                    after: p,
-                };
+                    e: last.start,
+                    after: Parser {
+                        cur: last,
+                        peek: peek,
+                        made: self.made,
+                    },
+                }
             }
+            _ => TextRead {
+                a: begin.start,
+                e: begin.start,
+                after: self.next_token(s),
+            },
         }
     }
 }

@@ -8,7 +8,7 @@ use token::Token;
 use token::Undefined;
 ghost use mathlib.Core.Path.{_≡_};
 ghost use Rattle.token.specs.Roles.{markNumber, parenMark, operatorMark, markOf, tokenIs, parenOf, fenceOf};
-ghost use Rattle.parser.specs.Marks.{isLetter, fence, scriptOf, scriptKind, otherLimit, leafOf, isDefined, isPutOn, standsAlone};
+ghost use Rattle.parser.specs.Marks.{fence, scriptOf, scriptKind, otherLimit, leafOf, isDefined, isPutOn, standsAlone};
 
 // The mark of a parenthesis, by its text.
 fn paren_mark(t: u32) -> Mark
@@ -73,16 +73,6 @@ pub fn token_is(t: Token, m: Mark) -> bool
     ensures { λ r. ⌜ r ≡ tokenIs t m ⌝ }
 {
     mark_number(mark_of(t)) == mark_number(m)
-}
-
-// Whether a token is a letter, of which texts are read.
-pub fn is_letter(t: Token) -> bool
-    ensures { λ r. ⌜ r ≡ isLetter t ⌝ }
-{
-    match t {
-        Token::Letter(_, _) => true,
-        _ => false,
-    }
 }
 
 // The text of a parenthesis.

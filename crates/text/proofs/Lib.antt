@@ -1,8 +1,11 @@
+pub mod AsciiLaws
 pub mod Cases
 pub mod EncodeLaws
 pub mod FollowLaws
 pub mod Keys
 pub mod PartLaws
+pub mod PlainLaws
 pub mod PutLaws
+pub mod SplitLaws
 pub mod Tabled
 pub mod Utf8Laws

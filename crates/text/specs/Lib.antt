@@ -1,5 +1,6 @@
 pub mod Utf8
 pub mod Follow
 pub mod Text
+pub mod Plain
 pub mod Put
 pub mod Examples

@@ -6,7 +6,7 @@ ghost use mathlib.Core.List.{List, _∷_};
 ghost use Prim.Native.Nat.{ℕ, suc, _≤_, _<_};
 ghost use lib.ListN.{length, drop};
 ghost use Rattle.text.specs.Utf8.{table, follow, goesOn, wellFormed, lead, replacement, codePoint};
-ghost use Rattle.text.specs.Follow.{pending, ranges, after, read};
+ghost use Rattle.text.specs.Follow.{pending, ranges, after, read, isAscii};
 
 // A code point and the number of bytes that it takes.
 pub struct CodePoint {
@@ -54,10 +54,28 @@ fn step(left: usize, low: u8, high: u8, b: u8) -> Follow
     Follow::Bytes(left - 1, 0x80, 0xbf)
 }
 
-// Whether the bytes are well-formed UTF-8, in one pass.
+// Whether no byte is above 127. It goes on to the end in any case, so that many bytes are tested at once.
+fn is_ascii(s: &[u8]) -> bool
+    ensures { λ r. ⌜ r ≡ isAscii (now (s .entry)) ⌝ }
+{
+    let mut ascii = true;
+    let mut i = 0;
+    while i < s.len() {
+        if 0x7f < s[i] {
+            ascii = false;
+        }
+        i += 1;
+    }
+    ascii
+}
+
+// Whether the bytes are well-formed UTF-8, in one pass; ASCII is.
 pub fn well_formed(s: &[u8]) -> bool
     ensures { λ r. ⌜ r ≡ wellFormed (now (s .entry)) ⌝ }
 {
+    if is_ascii(s) {
+        return true;
+    }
     let mut left = 0;
     let mut low = 0x80u8;
     let mut high = 0xbfu8;

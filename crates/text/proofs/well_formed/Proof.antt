@@ -8,10 +8,16 @@ use lib.ListN.{length, drop, drop-of-length-le}
 use Rattle.text.specs.Utf8.{goesOn, wellFormed}
 use Rattle.text.specs.Follow.{pending, ranges}
 use Rattle.text.proofs.Utf8Laws.{goes-ascii}
+use Rattle.text.proofs.AsciiLaws.{ascii-well}
 use Rattle.text.proofs.FollowLaws.{goes-on, goes-end}
 use borrow.Author.Needs.{needs}
+use native.Mathlib.Omega.{arith}
 use Rattle.text.proofs.well_formed.Statement.{statement}
 use Rattle.text.proofs.well_formed.Tie as tie
+use Rattle.text.proofs.well_formed.Reads as reads
+use Rattle.text.proofs.well_formed.Lts as lts
+use Rattle.text.proofs.is_ascii.Reads as is-ascii-reads
+use Rattle.text.proofs.step.Reads as step-reads
 
 abbrev Inv-loop : tie.InvT-loop
 Inv-loop s left₀ low₀ high₀ i₀ left low high i =
@@ -19,6 +25,13 @@ Inv-loop s left₀ low₀ high₀ i₀ left low high i =
 
 abbrev μ-loop : tie.MeasureT-loop
 μ-loop s left₀ low₀ high₀ i₀ left low high i = length s - i
+
+is-ascii-requires : tie.Need-is-ascii-requires Inv-loop μ-loop
+is-ascii-requires c κs = search needs
+
+returns : tie.Need-returns Inv-loop μ-loop
+returns c =
+    ascii-well ((c .before .before .before .args) .s .now) (sym ((c .before .is-ascii) .ensures) ∙ (c .if1) .taken)
 
 loop-holds : tie.Need-loop-holds Inv-loop μ-loop
 unfolding wellFormed
@@ -35,7 +48,7 @@ loop-less c = search needs
 
 loop-again : tie.Need-loop-again Inv-loop μ-loop
 loop-again c =
-    (c .before .before .before .before .loop) .inv ∙ rw ((c .before .if1) .taken) (goes-on _ _ [] (some []) ((c .before .before .before .loop-test) .taken) (λ l. goes-ascii _ l ((c .if2) .taken)))
+    (c .before .before .before .before .loop) .inv ∙ rw ((c .before .if2) .taken) (goes-on _ _ [] (some []) ((c .before .before .before .loop-test) .taken) (λ l. goes-ascii _ l ((c .if3) .taken)))
 
 step-requires : tie.Need-step-requires Inv-loop μ-loop
 step-requires c κs = search needs
@@ -46,9 +59,9 @@ enum-known-next c = search needs
 enum-told : tie.Need-enum-told Inv-loop μ-loop
 enum-told c = search needs
 
-returns : tie.Need-returns Inv-loop μ-loop
-returns c =
-    let g = goes-on ((c .before .before .before .before .before .before .before .before .args) .s .now) ((c .before .before .before .before .before .before .loop) .i) _ (ranges ((c .before .before .step) .result)) ((c .before .before .before .before .before .loop-test) .taken) ((c .before .before .step) .ensures) in
+returns-2 : tie.Need-returns-2 Inv-loop μ-loop
+returns-2 c =
+    let g = goes-on ((c .before .before .before .before .before .before .before .before .before .before .args) .s .now) ((c .before .before .before .before .before .before .loop) .i) _ (ranges ((c .before .before .step) .result)) ((c .before .before .before .before .before .loop-test) .taken) ((c .before .before .step) .ensures) in
     sym ((c .before .before .before .before .before .before .loop) .inv ∙ rw ((c .enum-told) .given .1) at g)
 
 add-i-2 : tie.Need-add-i-2 Inv-loop μ-loop
@@ -59,12 +72,12 @@ loop-less-2 c = search needs
 
 loop-again-2 : tie.Need-loop-again-2 Inv-loop μ-loop
 loop-again-2 c =
-    let g = goes-on ((c .before .before .before .before .before .before .before .before .before .args) .s .now) ((c .before .before .before .before .before .before .before .loop) .i) _ (ranges ((c .before .before .before .step) .result)) ((c .before .before .before .before .before .before .loop-test) .taken) ((c .before .before .before .step) .ensures) in
+    let g = goes-on ((c .before .before .before .before .before .before .before .before .before .before .before .args) .s .now) ((c .before .before .before .before .before .before .before .loop) .i) _ (ranges ((c .before .before .before .step) .result)) ((c .before .before .before .before .before .before .loop-test) .taken) ((c .before .before .before .step) .ensures) in
     (c .before .before .before .before .before .before .before .loop) .inv ∙ rw ((c .before .next) .given .1) at g
 
-returns-2 : tie.Need-returns-2 Inv-loop μ-loop
-returns-2 c =
-    goes-end ((c .before .loop) .left) ((c .before .loop) .low) ((c .before .loop) .high) ∙ sym (rw (drop-of-length-le ((c .before .before .before .args) .s .now) ((c .loop-test) .left)) at ((c .before .loop) .inv))
+returns-3 : tie.Need-returns-3 Inv-loop μ-loop
+returns-3 c =
+    goes-end ((c .before .loop) .left) ((c .before .loop) .low) ((c .before .loop) .high) ∙ sym (rw (drop-of-length-le ((c .before .before .before .before .before .args) .s .now) ((c .loop-test) .left)) at ((c .before .loop) .inv))
 
 pub well-formed-spec : {M : Type 1} → statement M
 well-formed-spec =
@@ -72,6 +85,8 @@ well-formed-spec =
     (tie.spec
     Inv-loop
     μ-loop
+    is-ascii-requires
+    returns
     loop-holds
     shared-slice-read-b
     add-i
@@ -80,8 +95,8 @@ well-formed-spec =
     step-requires
     enum-known-next
     enum-told
-    returns
+    returns-2
     add-i-2
     loop-less-2
     loop-again-2
-    returns-2)
+    returns-3)

@@ -1,0 +1,25 @@
+-- What is accepted was accepted step by step.
+-- Assumes nothing.
+use mathlib.Core.Path.{_≡_, refl}
+use mathlib.Core.Bool.{Bool, true, false}
+use Rattle.text.proofs.Cases.{never}
+use Rattle.error.specs.declared.Refusal.{Refusal}
+use Rattle.latex2mathml.specs.Outcome.{Outcome, accepted, refused, _>>=_, refuse}
+
+-- a first step's result, with which the second is accepted
+pub record Steps {A B : Type 0} (first : Outcome A) (second : A → Outcome B) (b : B) : Type 0 where
+  pub value : A
+  pub is : first ≡ accepted value
+  pub then : second value ≡ accepted b
+
+pub steps : {A B : Type 0} (first : Outcome A) (second : A → Outcome B) (b : B) → (first >>= second) ≡ accepted b → Steps first second b
+unfolding _>>=_
+steps (accepted a) second b e = record { value = a; is = refl; then = e }
+steps (refused r) second b e = never cc
+
+-- a test that would refuse failed
+pub not-refused : {B : Type 0} (test : Bool) (r : Refusal) (second : Unit {0} → Outcome B) (b : B) → (refuse test r >>= second) ≡ accepted b
+    → (test ≡ false) × (second tt ≡ accepted b)
+unfolding refuse _>>=_
+not-refused true r second b e = never cc
+not-refused false r second b e = (refl, e)
