@@ -111,18 +111,19 @@ module _ {s st : List ℕ} {first n hi : ℕ} (store : ℕ) (b : StoresBody s st
     shows : (write : Bool) → Room write o at (length text) → Printable (NodesAt s st hi first n) (λ ns. inMath display (printAll s ns)) write o at
     shows write h = record { what = b .nodes; there = there; room = h }
 
-    pub show-sure : (write : Bool) → sure ≡ true → Printable (NodesAt s st hi first n) (λ ns. inMath display (printAll s ns)) write o at
-    show-sure write e = shows write (room-sure write (room-for text is) e)
+    pub show-sure : sure ≡ true → Printable (NodesAt s st hi first n) (λ ns. inMath display (printAll s ns)) true o at
+    show-sure e = shows true (room-sure (room-for text is) e)
 
     pub show-count : Printable (NodesAt s st hi first n) (λ ns. inMath display (printAll s ns)) false o at
     show-count = shows false (room-count (room-for text is))
 
-    pub lay-sure : {write : Bool} {o′ : List ℕ} {r : ℕ} → sure ≡ true
-        → Prints (NodesAt s st hi first n) (λ ns. inMath display (printAll s ns)) write o o′ at r → LaidThere (translateBody store display s) write o o′ at r
-    lay-sure {write} e p =
-        let room = room-sure write (room-for text is) e in
+    pub lay-sure : {o′ : List ℕ} {r : ℕ} → sure ≡ true
+        → Prints (NodesAt s st hi first n) (λ ns. inMath display (printAll s ns)) true o o′ at r → LaidThere (translateBody store display s) o o′ at r
+    lay-sure e p =
+        let room = room-sure (room-for text is) e in
         let q = p .all (b .nodes) there room in
-        record { text = text; is = is; place = q .place; laid = laid-puts write (λ t. let f = room .inside t in omega arith) q }
+        let f = room .inside refl in
+        record { text = text; is = is; place = q .place; laid = laid-puts (omega arith) q }
 
     module _ {o₁ : List ℕ} {r : ℕ} (counted : Prints (NodesAt s st hi first n) (λ ns. inMath display (printAll s ns)) false o o₁ at r) where
       count : Puts false o o₁ at text r
@@ -132,14 +133,11 @@ module _ {s st : List ℕ} {first n hi : ℕ} (store : ℕ) (b : StoresBody s st
       unfolding put
       unchanged = count .output
 
-      pub lay-beyond : (write : Bool) → length o₁ < r → LaidThere (translateBody store display s) write o o₁ at r
-      lay-beyond write h =
+      pub lay-beyond : length o₁ < r → LaidThere (translateBody store display s) o o₁ at r
+      lay-beyond h =
           let e = count .place in
           let z = ap length unchanged in
-          record { text = text; is = is; place = e; laid = rw unchanged (laid-beyond write o text at (omega arith)) }
-
-      pub lay-count : LaidThere (translateBody store display s) false o o₁ at r
-      lay-count = record { text = text; is = is; place = count .place; laid = unchanged }
+          record { text = text; is = is; place = e; laid = rw unchanged (laid-beyond o text at (omega arith)) }
 
       fitting : r ≤ length o₁ → Room true o at (length text)
       fitting h =
@@ -151,7 +149,8 @@ module _ {s st : List ℕ} {first n hi : ℕ} (store : ℕ) (b : StoresBody s st
       show-fitting h = rw unchanged (shows true (fitting h))
 
       pub lay-fitting : {o₂ : List ℕ} {r₂ : ℕ} → r ≤ length o₁
-          → Prints (NodesAt s st hi first n) (λ ns. inMath display (printAll s ns)) true o₁ o₂ at r₂ → LaidThere (translateBody store display s) true o o₂ at r
+          → Prints (NodesAt s st hi first n) (λ ns. inMath display (printAll s ns)) true o₁ o₂ at r₂ → LaidThere (translateBody store display s) o o₂ at r
       lay-fitting h p =
           let q = (rw unchanged at p) .all (b .nodes) there (fitting h) in
-          record { text = text; is = is; place = count .place; laid = laid-puts true (λ t. let f = fitting h .inside t in omega arith) q }
+          let f = fitting h .inside refl in
+          record { text = text; is = is; place = count .place; laid = laid-puts (omega arith) q }

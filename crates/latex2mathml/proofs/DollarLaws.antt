@@ -1,7 +1,7 @@
 -- Dollars side by side, and whether marks are odd in number.
 -- Assumes nothing.
 use mathlib.Core.Path.{_≡_, refl, sym, _∙_, ap}
-use mathlib.Core.Bool.{Bool, true, false, not, xor, _&&_, and-false, false≢true}
+use mathlib.Core.Bool.{Bool, true, false, not, xor, _&&_, _||_, and-false, or-true, or-false, false≢true}
 use mathlib.Core.List.{List, [], _∷_}
 use Prim.Native.Nat.{ℕ, zero, suc, _+_, _-_, _≤_, _<_, _%_}
 use native.Mathlib.Omega.{arith}
@@ -13,7 +13,7 @@ use borrow.Author.Tests.{eqb-true, eqb-false, eq-eqb, ne-eqb, lt-ltb, ltb-false}
 use Rattle.text.proofs.Cases.{never, by-test, by-order, both}
 use Rattle.latex2mathml.specs.Replace.{dollar, twoDollars, threeDollars, places, odd}
 use Rattle.latex2mathml.specs.Dollars.{mark, width, nextPlace}
-use Rattle.latex2mathml.proofs.PlaceLaws.{next-here, next-more, next-is, next-none, places-here, places-more, places-none, places-first, skipped}
+use Rattle.latex2mathml.proofs.PlaceLaws.{next-here, next-more, next-is, next-none, places-here, places-more, places-end, places-none, places-first, skipped}
 
 -- a byte is a dollar where it stands
 dollar-at : (s : List ℕ) (i : ℕ) → dollar (drop i s) ≡ eqb (getD s i 0) 36
@@ -44,27 +44,24 @@ dollar-end : (s : List ℕ) (i : ℕ) → length s ≤ i → dollar (drop i s) �
 unfolding dollar
 dollar-end s i h = rw (drop-of-length-le s h)
 
--- The next two dollars from i on, where r is the next dollar.
-module _ (s : List ℕ) (i r : ℕ) (h : i ≤ length s) (e : r ≡ nextPlace dollar i (drop i s)) where
-  window-next : nextPlace twoDollars i (drop i s) ≡ nextPlace twoDollars r (drop r s)
-  window-next =
-      rw e (skipped dollar s (λ j. nextPlace twoDollars j (drop j s)) (λ j l failed. next-more twoDollars s j l (two-at s j false _ failed refl)) i h)
+-- The next two dollars from i on.
+module _ (s : List ℕ) (i : ℕ) where
+  -- where no dollar stands behind i, they are the next from i + 2 on
+  pub window-past : i + 1 < length s → (getD s (i + 1) 0 ≡ 36 → ⊥) → nextPlace twoDollars i (drop i s) ≡ nextPlace twoDollars (i + 2) (drop (i + 2) s)
+  window-past h e =
+      let two : i + 1 + 1 ≡ i + 2 = omega arith in
+      let here = two-at s i _ false refl (dollar-not s (i + 1) e) ∙ and-false (dollar (drop i s)) in
+      next-more twoDollars s i (omega arith) here ∙ rw (← two) (next-more twoDollars s (i + 1) h (two-at s (i + 1) false _ (dollar-not s (i + 1) e) refl))
 
-  first-dollar : r < length s → dollar (drop r s) ≡ true
-  first-dollar l = rw (← e) at (next-is dollar s i h) .passes l
+  pub window-here : i + 1 < length s → getD s (i + 1) 0 ≡ 36 → getD s i 0 ≡ 36 → nextPlace twoDollars i (drop i s) ≡ i
+  window-here h e f = next-here twoDollars s i (omega arith) (two-at s i true true (dollar-is s i f) (dollar-is s (i + 1) e))
 
-  pub window-none : r ≤ length s → length s - r < 2 → nextPlace twoDollars i (drop i s) ≡ length s
-  window-none k short =
-      window-next ∙ next-none twoDollars s r k (λ j l. two-at s j _ false refl (dollar-end s (j + 1) (omega arith)) ∙ and-false (dollar (drop j s)))
+  pub window-more : i + 1 < length s → (getD s i 0 ≡ 36 → ⊥) → nextPlace twoDollars i (drop i s) ≡ nextPlace twoDollars (i + 1) (drop (i + 1) s)
+  window-more h f = next-more twoDollars s i (omega arith) (two-at s i false _ (dollar-not s i f) refl)
 
-  pub window-here : r + 1 < length s → getD s (r + 1) 0 ≡ 36 → nextPlace twoDollars i (drop i s) ≡ r
-  window-here l b =
-      window-next ∙ next-here twoDollars s r (omega arith) (two-at s r true true (first-dollar (omega arith)) (dollar-is s (r + 1) b))
-
-  pub window-more : r + 1 < length s → (getD s (r + 1) 0 ≡ 36 → ⊥)
-      → nextPlace twoDollars i (drop i s) ≡ nextPlace twoDollars (r + 1) (drop (r + 1) s)
-  window-more l b =
-      window-next ∙ next-more twoDollars s r (omega arith) (two-at s r true false (first-dollar (omega arith)) (dollar-not s (r + 1) b))
+  pub window-none : i ≤ length s → length s - i ≤ 1 → nextPlace twoDollars i (drop i s) ≡ length s
+  window-none h short =
+      next-none twoDollars s i h (λ j l. two-at s j _ false refl (dollar-end s (j + 1) (omega arith)) ∙ and-false (dollar (drop j s)))
 
 -- The places of three dollars from i on, where r is the next place of two.
 module _ (s : List ℕ) (i r : ℕ) (h : i ≤ length s) (e : r ≡ nextPlace twoDollars i (drop i s)) where
@@ -89,6 +86,19 @@ module _ (s : List ℕ) (i r : ℕ) (h : i ≤ length s) (e : r ≡ nextPlace tw
       → places threeDollars i (drop i s) ≡ places threeDollars (r + 1) (drop (r + 1) s)
   three-more l b =
       three-next ∙ places-more threeDollars s r (omega arith) (three-at s r true false (first-two (omega arith)) (dollar-not s (r + 2) b))
+
+-- Whether a dollar stands anywhere, with f for the bytes before i.
+module _ (s : List ℕ) (i : ℕ) (f : Bool) where
+  pub some-here : i < length s → getD s i 0 ≡ 36 → (f || ltb 0 (length (places dollar i (drop i s)))) ≡ true
+  some-here l e =
+      rw (places-here dollar s i l (dollar-is s i e), lt-ltb 0 (suc (length (places dollar (i + 1) (drop (i + 1) s)))) (omega arith)) (or-true f)
+
+  pub some-more : i < length s → (getD s i 0 ≡ 36 → ⊥)
+      → (f || ltb 0 (length (places dollar i (drop i s)))) ≡ (f || ltb 0 (length (places dollar (i + 1) (drop (i + 1) s))))
+  some-more l e = rw (places-more dollar s i l (dollar-not s i e))
+
+  pub some-end : length s ≤ i → (f || ltb 0 (length (places dollar i (drop i s)))) ≡ f
+  some-end h = rw (places-end dollar s i h) (or-false f)
 
 -- one more place makes odd even and even odd
 odd-more : (r : ℕ) (l : List ℕ) → odd (r ∷ l) ≡ not (odd l)
@@ -115,6 +125,20 @@ xor-false : (o : Bool) → xor o false ≡ o
 unfolding xor
 xor-false true = refl
 xor-false false = refl
+
+-- Whether the dollars from i on are odd in number, with o for those before.
+module _ (s : List ℕ) (i : ℕ) (o : Bool) where
+  pub odd-here : i < length s → getD s i 0 ≡ 36
+      → xor o (odd (places dollar i (drop i s))) ≡ xor (not o) (odd (places dollar (i + 1) (drop (i + 1) s)))
+  odd-here l e = rw (places-here dollar s i l (dollar-is s i e), odd-more) (flipped o _)
+
+  pub odd-past : i < length s → (getD s i 0 ≡ 36 → ⊥)
+      → xor o (odd (places dollar i (drop i s))) ≡ xor o (odd (places dollar (i + 1) (drop (i + 1) s)))
+  odd-past l e = rw (places-more dollar s i l (dollar-not s i e))
+
+  pub odd-end : length s ≤ i → xor o (odd (places dollar i (drop i s))) ≡ o
+  unfolding odd
+  odd-end h = rw (places-end dollar s i h) (xor-false o)
 
 -- Whether the places from i on are odd in number, with o for those before; r is the next.
 module _ (test : List ℕ → Bool) (s : List ℕ) (i r : ℕ) (o : Bool) (h : i ≤ length s) (e : r ≡ nextPlace test i (drop i s)) where
@@ -148,6 +172,16 @@ module _ (test : List ℕ → Bool) (s : List ℕ) (none : places test 0 s ≡ [
 none-listed : (l : List ℕ) → ltb 0 (length l) ≡ false → l ≡ []
 none-listed [] e = refl
 none-listed (b ∷ l) e = let z = ltb-false 0 (suc (length l)) e in absurd (omega arith)
+
+-- a text without dollars has no marks
+mark-none : (double : Bool) (s : List ℕ) (j : ℕ) → dollar (drop j s) ≡ false → mark double (drop j s) ≡ false
+mark-none true s j e = two-at s j false _ e refl
+mark-none false s j e = e
+
+pub no-mark : (double : Bool) (s : List ℕ) → ltb 0 (length (places dollar 0 s)) ≡ false → nextPlace (mark double) 0 s ≡ length s
+no-mark double s e =
+    next-none (mark double) s 0 (omega arith)
+    (λ j h. mark-none double s j (by-order j (length s) (λ l. none-passes dollar s (none-listed (places dollar 0 s) e) j l) (λ l. dollar-end s j l)))
 
 -- where no three dollars stand in a row, the marks behind a mark are those behind its last dollar
 pub record Behind (double : Bool) (s : List ℕ) (a : ℕ) : Type 0 where

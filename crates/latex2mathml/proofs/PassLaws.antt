@@ -20,7 +20,7 @@ use Rattle.latex2mathml.specs.Replace.{threeDollars, places, odd, transl
 use Rattle.latex2mathml.specs.Dollars.{mark, width, nextPlace}
 use Rattle.latex2mathml.specs.Laid.{Laid, LaidThere, Lays, RoomFor, Fits, passed, growth, Passable, AtMost}
 use Rattle.latex2mathml.proofs.TranslateLaws.{translated-short}
-use Rattle.latex2mathml.proofs.LayLaws.{laid-nothing, laid-more, laid-kept, laid-front, front-less}
+use Rattle.latex2mathml.proofs.LayLaws.{laid-nothing, laid-more, front-less}
 use Rattle.latex2mathml.proofs.PlaceLaws.{places-none}
 use Rattle.latex2mathml.proofs.DollarLaws.{Pair}
 
@@ -56,19 +56,19 @@ part-all a l = take-all (length l - a) (drop a l) (let n = length-drop a l in om
 
 -- ---- what is laid so far
 
-pub record Sofar (write : Bool) (o₀ o : List ℕ) (start at : ℕ) (done : List ℕ) : Type 0 where
+pub record Sofar (o₀ o : List ℕ) (start at : ℕ) (done : List ℕ) : Type 0 where
   pub place : at ≡ start + length done
-  pub laid : Laid write o₀ o start done
+  pub laid : Laid o₀ o start done
   pub same : length o ≡ length o₀
 
-sofar-more : (write : Bool) (o₀ o o′ : List ℕ) (start at at′ : ℕ) (done bs : List ℕ) → Sofar write o₀ o start at done
-    → at′ ≡ at + length bs → Laid write o o′ at bs → length o′ ≡ length o → at + length bs < 2 ^ 64 → Sofar write o₀ o′ start at′ (done ++ bs)
-sofar-more write o₀ o o′ start at at′ done bs h e p same small =
+sofar-more : (o₀ o o′ : List ℕ) (start at at′ : ℕ) (done bs : List ℕ) → Sofar o₀ o start at done
+    → at′ ≡ at + length bs → Laid o o′ at bs → length o′ ≡ length o → at + length bs < 2 ^ 64 → Sofar o₀ o′ start at′ (done ++ bs)
+sofar-more o₀ o o′ start at at′ done bs h e p same small =
     let n = length-append done bs in
     let place = h .place in
     record {
       place = omega arith;
-      laid = laid-more write o₀ o o′ start at done bs (omega arith) (h .place) (h .laid) p (h .same);
+      laid = laid-more o₀ o o′ start at done bs (omega arith) (h .place) (h .laid) p (h .same);
       same = same ∙ h .same;
     }
 
@@ -82,27 +82,27 @@ module _ (store : ℕ) (display : DisplayStyle) (double : Bool) (s : List ℕ) (
   rest from = substitute store display w s from (marks from)
 
   -- the text up to `from` is done and laid up to the place `at`
-  pub record Passing (write : Bool) (o₀ o : List ℕ) (start at from : ℕ) : Type 0 where
+  pub record Passing (o₀ o : List ℕ) (start at from : ℕ) : Type 0 where
     pub wide : w ≡ width double
     pub done : List ℕ
     pub whole : passed store display double s ≡ (rest from >>= (λ l. accepted (done ++ l)))
-    pub sofar : Sofar write o₀ o start at done
+    pub sofar : Sofar o₀ o start at done
     pub most : at ≤ start + from * growth
     pub inside : from ≤ length s
     pub even : odd (marks from) ≡ false
 
-  pub passing-none : (write : Bool) (o : List ℕ) (start : ℕ) → w ≡ width double → odd (places (mark double) 0 s) ≡ false → Passing write o o start start 0
-  passing-none write o start wide even = record {
+  pub passing-none : (o : List ℕ) (start : ℕ) → w ≡ width double → odd (places (mark double) 0 s) ≡ false → Passing o o start start 0
+  passing-none o start wide even = record {
     wide = wide;
     done = [];
     whole = rw (← wide) (all-to-come (rest 0));
-    sofar = record { place = omega arith; laid = laid-nothing write o start; same = refl };
+    sofar = record { place = omega arith; laid = laid-nothing o start; same = refl };
     most = omega arith;
     inside = omega arith;
     even = even;
   }
 
-  module _ {write : Bool} {o₀ o : List ℕ} {start at from : ℕ} (small : start + length s * growth < 2 ^ 64) (h : Passing write o₀ o start at from) where
+  module _ {o₀ o : List ℕ} {start at from : ℕ} (small : start + length s * growth < 2 ^ 64) (h : Passing o₀ o start at from) where
     -- the last piece
     pub last-small : at + length (part from (length s) s) < 2 ^ 64
     last-small =
@@ -112,14 +112,14 @@ module _ (store : ℕ) (display : DisplayStyle) (double : Bool) (s : List ℕ) (
         omega arith
 
     pub passing-all : (o′ : List ℕ) {a r : ℕ} → a ≡ nextPlace (mark double) from (drop from s) → a ≡ length s → r ≡ at + length (part from (length s) s)
-        → Laid write o o′ at (part from (length s) s) → length o′ ≡ length o
-        → Lays (passed store display double s) write o₀ o′ start (Answer.Accepted r) × AtMost (start + length s * growth) (Answer.Accepted r)
+        → Laid o o′ at (part from (length s) s) → length o′ ≡ length o
+        → Lays (passed store display double s) o₀ o′ start (Answer.Accepted r) × AtMost (start + length s * growth) (Answer.Accepted r)
     unfolding substitute _>>=_
     passing-all o′ {a} {r} e end place laid same =
         let most = h .most in
         let inside = h .inside in
         let n = length-part from (length s) s in
-        let f = sofar-more write o₀ o o′ start at r (h .done) (part from (length s) s) (h .sofar) place laid same last-small in (
+        let f = sofar-more o₀ o o′ start at r (h .done) (part from (length s) s) (h .sofar) place laid same last-small in (
           record {
             text = h .done ++ part from (length s) s;
             is = h .whole ∙ rw (places-none (mark double) s from a (h .inside) e end, part-all from s);
@@ -144,9 +144,9 @@ module _ (store : ℕ) (display : DisplayStyle) (double : Bool) (s : List ℕ) (
           omega arith
 
       -- with the prose laid up to the place at₁
-      module _ (o₁ : List ℕ) (at₁ : ℕ) (place : at₁ ≡ at + length (part from a s)) (laid : Laid write o o₁ at (part from a s)) (same : length o₁ ≡ length o) where
-        prose : Sofar write o₀ o₁ start at₁ (h .done ++ part from a s)
-        prose = sofar-more write o₀ o o₁ start at at₁ (h .done) (part from a s) (h .sofar) place laid same prose-small
+      module _ (o₁ : List ℕ) (at₁ : ℕ) (place : at₁ ≡ at + length (part from a s)) (laid : Laid o o₁ at (part from a s)) (same : length o₁ ≡ length o) where
+        prose : Sofar o₀ o₁ start at₁ (h .done ++ part from a s)
+        prose = sofar-more o₀ o o₁ start at at₁ (h .done) (part from a s) (h .sofar) place laid same prose-small
 
         prose-most : at₁ ≤ start + a * growth
         prose-most =
@@ -187,23 +187,22 @@ module _ (store : ℕ) (display : DisplayStyle) (double : Bool) (s : List ℕ) (
                   omega arith;
             }
 
-        pub passing-refused : {o₂ : List ℕ} (r : Refusal)
-            → Lays (translateBody store display (part (a + w) b s)) write o₁ o₂ at₁ (Answer.Refused r)
-            → Lays (passed store display double s) write o₀ o₂ start (Answer.Refused r) × AtMost (start + length s * growth) (Answer.Refused r)
+        pub passing-refused : (o₂ : List ℕ) (r : Refusal)
+            → Lays (translateBody store display (part (a + w) b s)) o₁ o₂ at₁ (Answer.Refused r)
+            → Lays (passed store display double s) o₀ o₂ start (Answer.Refused r) × AtMost (start + length s * growth) (Answer.Refused r)
         unfolding substitute _>>=_
-        passing-refused r (is, kept, front) =
+        passing-refused o₂ r (is, front) =
             let place₁ = prose .place in (
               (
                 h .whole ∙ rw (p .marks, substitute, is),
-                λ e. kept e ∙ laid-kept write o₀ o₁ start _ (prose .laid) e,
-                front-less start at₁ _ _ (omega arith) front ∙ laid-front write o₀ o₁ start _ (prose .laid),
+                front-less start at₁ _ _ (omega arith) front ∙ prose .laid .1,
               ),
               tt,
             )
 
         pub passing-more : {o₂ : List ℕ} (r : ℕ) → length o₂ ≡ length o₁
-            → Lays (translateBody store display (part (a + w) b s)) write o₁ o₂ at₁ (Answer.Accepted r)
-            → Passing write o₀ o₂ start r (b + w)
+            → Lays (translateBody store display (part (a + w) b s)) o₁ o₂ at₁ (Answer.Accepted r)
+            → Passing o₀ o₂ start r (b + w)
         passing-more {o₂} r same₂ q =
             let most = body-most (q .text) (q .is) in
             let last = p .last in
@@ -212,7 +211,7 @@ module _ (store : ℕ) (display : DisplayStyle) (double : Bool) (s : List ℕ) (
               wide = h .wide;
               done = (h .done ++ part from a s) ++ q .text;
               whole = whole-next (q .text) (q .is);
-              sofar = sofar-more write o₀ o₁ o₂ start at₁ r (h .done ++ part from a s) (q .text) prose (q .place) (q .laid) same₂ (omega arith);
+              sofar = sofar-more o₀ o₁ o₂ start at₁ r (h .done ++ part from a s) (q .text) prose (q .place) (q .laid) same₂ (omega arith);
               most = omega arith;
               inside = p .last;
               even = p .even;

@@ -11,7 +11,7 @@ use lib.ListN.{length, take, drop, length-append}
 use lib.Seq.{take-at, length-take-le}
 use borrow.Author.Tests.{ltb-true, ltb-false, lt-ltb, le-ltb}
 use Rattle.text.specs.Utf8.{wellFormed}
-use Rattle.text.specs.Put.{Puts}
+use Rattle.text.specs.Put.{Room, Puts}
 use Rattle.text.proofs.Cases.{never, by-test}
 use Rattle.text.proofs.PutLaws.{puts-all}
 use Rattle.attribute.specs.declared.DisplayStyle.{DisplayStyle}
@@ -20,12 +20,11 @@ use Rattle.latex2mathml.specs.declared.Answer.{Answer}
 use Rattle.latex2mathml.specs.Outcome.{Outcome, accepted, refused, _>>=_, refuse, bytesOf, documentLimit}
 use Rattle.latex2mathml.specs.Replace.{dollar, twoDollars, threeDollars, places, odd, substitute, firstPass, secondPass, replacement, replaceOutcome, replace}
 use Rattle.latex2mathml.specs.Written.{answerOf, over, Gives, Replaces}
-use Rattle.latex2mathml.specs.Laid.{Laid, LaidThere, Lays, Fits, WrittenThere, inRoom, passed, growth, Passable, AtMost}
+use Rattle.latex2mathml.specs.Laid.{Laid, LaidThere, Lays, Fits, WrittenThere, Begins, inRoom, passed, growth, Passable, AtMost}
 use Rattle.latex2mathml.proofs.TranslateLaws.{gives-nothing, gives-markup}
 use Rattle.latex2mathml.specs.Dollars.{mark, nextPlace}
 use Rattle.latex2mathml.proofs.PlaceLaws.{places-none}
 use Rattle.latex2mathml.proofs.DollarLaws.{three-none}
-use Rattle.latex2mathml.proofs.LayLaws.{laid-kept, laid-front}
 
 -- ---- answers and outcomes
 
@@ -34,12 +33,42 @@ at-most m n (Answer.Accepted k) h l = omega arith
 at-most m n (Answer.Refused r) h l = tt
 
 -- what was measured is written
-pub written-there : {want : Outcome (List ℕ)} {o o′ : List ℕ} {at r : ℕ} → Fits want o at → LaidThere want true o o′ at r → WrittenThere want o o′ at r
+pub written-there : {want : Outcome (List ℕ)} {o o′ : List ℕ} {at r : ℕ} → Fits want o at → LaidThere want o o′ at r → WrittenThere want o o′ at r
 written-there f q =
     let same : f .text ≡ q .text = cc in
     let n = ap length same in
     let room = f .inside in
     record { text = q .text; is = q .is; puts = record { place = q .place; output = q .laid .0 (omega arith) } }
+
+-- a buffer in which a text was laid begins with it, if it has the room
+pub begins-laid : {want want′ : Outcome (List ℕ)} {b b′ : List ℕ} {n : ℕ} (q : LaidThere want b b′ 0 n) → want′ ≡ accepted (q .text) → length b′ ≡ length b → Begins want′ b′ n
+begins-laid {want} {want′} {b} {b′} {n} q is same =
+    let e = q .place in
+    record {
+      text = q .text;
+      is = is;
+      long = omega arith;
+      front = λ fits.
+          let p : Puts true b b′ 0 (q .text) n = record { place = q .place; output = q .laid .0 (omega arith) } in
+          rw (puts-all p) (take-at (q .text) (drop (length (q .text)) b) n (omega arith));
+    }
+
+-- Writing the text of a pass that was drafted.
+module _ {want : Outcome (List ℕ)} {b : List ℕ} {n : ℕ} (q : Begins want b n) (fits : n ≤ length b) where
+  pub front-length : n ≡ length (take n b)
+  front-length = sym (length-take-le n b fits)
+
+  pub front-room : {o : List ℕ} → Fits want o 0 → length o < 2 ^ 64 → Room true o 0 (length (take n b))
+  front-room {o} f small =
+      let same : f .text ≡ q .text = let x = f .is in let y = q .is in cc in
+      let z = ap length same in
+      let long = q .long in
+      let e = front-length in
+      let inside = f .inside in
+      record { small = omega arith; inside = λ t. omega arith }
+
+  pub front-written : {o o′ : List ℕ} {r : ℕ} → Puts true o o′ 0 (take n b) r → WrittenThere want o o′ 0 r
+  front-written p = record { text = q .text; is = q .is; puts = rw (q .front fits) at p }
 
 -- ---- pass one
 
@@ -71,7 +100,7 @@ pub record Checked (d : List ℕ) : Type 0 where
   pub apart : ltb 0 (length (places threeDollars 0 d)) ≡ false
 
 -- a text without marks is its own pass
-module _ (store : ℕ) (display : DisplayStyle) (double : Bool) (s : List ℕ) (none : length s ≡ nextPlace (mark double) 0 (drop 0 s)) where
+module _ (store : ℕ) (display : DisplayStyle) (double : Bool) (s : List ℕ) (none : length s ≡ nextPlace (mark double) 0 s) where
   no-marks : places (mark double) 0 s ≡ []
   no-marks = places-none (mark double) s 0 (length s) (omega arith) none refl
 
@@ -84,11 +113,11 @@ module _ (store : ℕ) (display : DisplayStyle) (double : Bool) (s : List ℕ) (
   plain-passed = rw (no-marks, substitute)
 
   -- where it is laid
-  pub plain-laid : (write : Bool) (o o′ : List ℕ) (at r : ℕ) → r ≡ at + length s → Laid write o o′ at s → LaidThere (passed store display double s) write o o′ at r
-  plain-laid write o o′ at r place laid = record { text = s; is = plain-passed; place = place; laid = laid }
+  pub plain-laid : (o o′ : List ℕ) (at r : ℕ) → r ≡ at + length s → Laid o o′ at s → LaidThere (passed store display double s) o o′ at r
+  plain-laid o o′ at r place laid = record { text = s; is = plain-passed; place = place; laid = laid }
 
 -- no windows, and so no three dollars in a row
-pub plain-checked : (d : List ℕ) → length d ≤ 32768 → wellFormed d ≡ true → length d ≡ nextPlace twoDollars 0 (drop 0 d) → Checked d
+pub plain-checked : (d : List ℕ) → length d ≤ 32768 → wellFormed d ≡ true → length d ≡ nextPlace twoDollars 0 d → Checked d
 plain-checked d short well none = record {
   short = short;
   well = well;
@@ -101,23 +130,30 @@ module _ (d : List ℕ) (store work : ℕ) where
   unfolding firstPass refuse _>>=_ documentLimit
   first-is h = rw (firstPass, le-ltb 32768 (length d) (h .short), h .well, h .even, h .apart)
 
-  module _ (write : Bool) (w w′ : List ℕ) (h : Checked d) (lent : work ≡ length w) where
-    pub first-refused : (r : Refusal) → Lays (passed store DisplayStyle.Block true d) write w w′ 0 (Answer.Refused r)
-        → Lays (firstPass d store work) write w w′ 0 (Answer.Refused r)
+  -- a text too long for the work buffer
+  too-long : (h : Checked d) (text : List ℕ) → passed store DisplayStyle.Block true d ≡ accepted text → work < length text → firstPass d store work ≡ refused Refusal.WorkTooSmall
+  unfolding refuse _>>=_
+  too-long h text is l = first-is h ∙ rw (is, lt-ltb work (length text) l)
+
+  pub plain-large : Checked d → length d ≡ nextPlace twoDollars 0 d → work < length d → firstPass d store work ≡ refused Refusal.WorkTooSmall
+  plain-large h none l = too-long h d (plain-passed store DisplayStyle.Block true d none) l
+
+  module _ (b b′ : List ℕ) (h : Checked d) where
+    pub first-refused : (r : Refusal) → Lays (passed store DisplayStyle.Block true d) b b′ 0 (Answer.Refused r)
+        → Lays (firstPass d store work) b b′ 0 (Answer.Refused r)
     unfolding _>>=_
-    first-refused r (is, kept, front) = (first-is h ∙ rw is, kept, front)
+    first-refused r (is, front) = (first-is h ∙ rw is, front)
 
-    pub first-large : (n : ℕ) → LaidThere (passed store DisplayStyle.Block true d) write w w′ 0 n → length w′ ≡ length w → length w′ < n
-        → Lays (firstPass d store work) write w w′ 0 (Answer.Refused Refusal.WorkTooSmall)
-    unfolding refuse _>>=_
-    first-large n q same l =
+    pub first-large : (n : ℕ) → LaidThere (passed store DisplayStyle.Block true d) b b′ 0 n → work < n
+        → Lays (firstPass d store work) b b′ 0 (Answer.Refused Refusal.WorkTooSmall)
+    first-large n q l =
         let e = q .place in
-        (first-is h ∙ rw (q .is, lt-ltb work (length (q .text)) (omega arith)), laid-kept write w w′ 0 (q .text) (q .laid), laid-front write w w′ 0 (q .text) (q .laid))
+        (too-long h (q .text) (q .is) (omega arith), q .laid .1)
 
-    pub first-fits : (n : ℕ) → LaidThere (passed store DisplayStyle.Block true d) write w w′ 0 n → length w′ ≡ length w → n ≤ length w′
-        → LaidThere (firstPass d store work) write w w′ 0 n
+    pub first-fits : (n : ℕ) → LaidThere (passed store DisplayStyle.Block true d) b b′ 0 n → n ≤ work
+        → LaidThere (firstPass d store work) b b′ 0 n
     unfolding refuse _>>=_
-    first-fits n q same l =
+    first-fits n q l =
         let e = q .place in
         record { text = q .text; is = first-is h ∙ rw (q .is, le-ltb work (length (q .text)) (omega arith)); place = q .place; laid = q .laid }
 
@@ -211,24 +247,31 @@ module _ (store : ℕ) (text : List ℕ) where
       fits = λ f. record { text = m; is = second-passed; inside = room };
     }
 
-pub finish-refused : (want : Outcome (List ℕ)) (r : Refusal) (o o′ : List ℕ) → Lays want false o o′ 0 (Answer.Refused r) → Gives (inRoom (length o) want) (Answer.Refused r) o o′
+pub finish-refused : (want : Outcome (List ℕ)) (r : Refusal) (o : List ℕ) → want ≡ refused r → Gives (inRoom (length o) want) (Answer.Refused r) o o
 unfolding _>>=_
-finish-refused want r o o′ (is, kept, front) = rw (kept refl) (gives-nothing o (rw is))
+finish-refused want r o is = gives-nothing o (rw is)
 
-module _ (want : Outcome (List ℕ)) (n : ℕ) (o o₁ : List ℕ) (a : LaidThere want false o o₁ 0 n) where
-  pub too-small : length o₁ < n → Gives (inRoom (length o) want) (Answer.Refused Refusal.OutputTooSmall) o o₁
+module _ (store : ℕ) (text : List ℕ) (n : ℕ) (o b b₁ : List ℕ) (a : LaidThere (secondPass store text) b b₁ 0 n) where
+  pub too-small : length o < n → Gives (inRoom (length o) (secondPass store text)) (Answer.Refused Refusal.OutputTooSmall) o o
   unfolding refuse _>>=_
   too-small l =
       let e = a .place in
-      let z = ap length (a .laid) in
-      rw (a .laid) (gives-nothing o (rw (a .is, lt-ltb (length o) (length (a .text)) (omega arith))))
+      gives-nothing o (rw (a .is, lt-ltb (length o) (length (a .text)) (omega arith)))
 
-  pub finished : {o′ : List ℕ} {r : ℕ} → n ≤ length o₁ → Puts true o₁ o′ 0 (a .text) r → Gives (inRoom (length o) want) (Answer.Accepted n) o o′
-  unfolding refuse _>>=_
-  finished {o′} {r} l p =
+  pub finish-passable : length text * growth < 2 ^ 64 → n ≤ length o → Passable store DisplayStyle.Inline false text true o 0
+  finish-passable small l =
       let e = a .place in
-      let z = ap length (a .laid) in
-      gives-markup (rw (a .is, le-ltb (length o) (length (a .text)) (omega arith))) (omega arith) (rw (a .laid) at p)
+      second-passable store text (a .text) (a .is) o 0 (omega arith) (omega arith)
+
+  pub finish-begins : length b₁ ≡ length b → Begins (passed store DisplayStyle.Inline false text) b₁ n
+  finish-begins same = begins-laid a (second-passed store text (a .text) (a .is)) same
+
+  pub finished : {o′ : List ℕ} {r : ℕ} → n ≤ length o → WrittenThere (passed store DisplayStyle.Inline false text) o o′ 0 r
+      → Gives (inRoom (length o) (secondPass store text)) (Answer.Accepted n) o o′
+  unfolding refuse _>>=_
+  finished {o′} {r} l q =
+      let e = a .place in
+      gives-markup (rw (a .is, le-ltb (length o) (length (a .text)) (omega arith))) (omega arith) (second-written store text (a .text) (a .is) q)
 
 -- ---- the text of pass one in the work buffer
 
@@ -261,7 +304,7 @@ module _ (d : List ℕ) (store : ℕ) (w w′ : List ℕ) (n : ℕ) where
       }
 
   -- written at once, as it fits
-  pub drafted-laid : LaidThere (firstPass d store (length w)) true w w′ 0 n → length w′ ≡ length w → n ≤ length d * growth → Drafted d store w w′ n
+  pub drafted-laid : LaidThere (firstPass d store (length w)) w w′ 0 n → length w′ ≡ length w → n ≤ length d * growth → Drafted d store w w′ n
   drafted-laid q same most =
       let f = first-accepted d store (length w) (q .text) (q .is) in
       let room = f .inside in
@@ -290,20 +333,23 @@ module _ (d : List ℕ) (store : ℕ) (w w′ : List ℕ) (n : ℕ) where
 
 -- ---- the replacement
 
-module _ (d : List ℕ) (store : ℕ) (w w₁ : List ℕ) (n : ℕ) (q : LaidThere (firstPass d store (length w)) false w w₁ 0 n) where
-  pub replace-passable : Passable store DisplayStyle.Block true d true w₁ 0
-  replace-passable = rw (q .laid) (first-passable d store (length w) (q .text) (q .is) w refl)
+module _ (d : List ℕ) (store : ℕ) (w b b₁ : List ℕ) (n : ℕ) (q : LaidThere (firstPass d store (length w)) b b₁ 0 n) where
+  pub replace-passable : Passable store DisplayStyle.Block true d true w 0
+  replace-passable = first-passable d store (length w) (q .text) (q .is) w refl
 
-  pub replace-drafted : (most : n ≤ length d * growth) (w₂ : List ℕ) {r : ℕ} → length w₂ ≡ length w₁ → WrittenThere (passed store DisplayStyle.Block true d) w₁ w₂ 0 r
-      → Drafted d store w w₂ n
-  replace-drafted most w₂ same first =
+  pub replace-begins : length b₁ ≡ length b → Begins (passed store DisplayStyle.Block true d) b₁ n
+  replace-begins same = begins-laid q (first-accepted d store (length w) (q .text) (q .is) .is) same
+
+  pub replace-drafted : (most : n ≤ length d * growth) (w′ : List ℕ) {r : ℕ} → length w′ ≡ length w → WrittenThere (passed store DisplayStyle.Block true d) w w′ 0 r
+      → Drafted d store w w′ n
+  replace-drafted most w′ same first =
       let e = q .place in
-      drafted-written d store w w₂ n (q .text) (q .is) (rw (q .laid) at first) (omega arith) (same ∙ ap length (q .laid)) most
+      drafted-written d store w w′ n (q .text) (q .is) first (omega arith) same most
 
 module _ (d : List ℕ) (store : ℕ) (w o : List ℕ) where
-  pub replace-refused : (w′ : List ℕ) (r : Refusal) → Lays (firstPass d store (length w)) false w w′ 0 (Answer.Refused r) → Replaces d store (Answer.Refused r) w w′ o o
+  pub replace-refused : (r : Refusal) → firstPass d store (length w) ≡ refused r → Replaces d store (Answer.Refused r) w w o o
   unfolding replace replaceOutcome replacement _>>=_ bytesOf over
-  replace-refused w′ r (is, kept, front) = record { gives = gives-nothing o (rw is); work = rw is (kept refl) }
+  replace-refused r is = record { gives = gives-nothing o (rw is); work = rw is }
 
   pub replace-accepted : {w′ o′ : List ℕ} {n : ℕ} (r : Answer) → (q : Drafted d store w w′ n)
       → Gives (inRoom (length o) (secondPass store (take n w′))) r o o′ → Replaces d store r w w′ o o′
@@ -322,12 +368,12 @@ replacement-refused d store work r is = rw is
 -- the replacement laid at a place
 module _ (d : List ℕ) (store : ℕ) (w o o′ : List ℕ) (at : ℕ) where
   pub lay-refused : (r : Refusal) → firstPass d store (length w) ≡ refused r
-      → Lays (replacement d store (length w)) true o o at (Answer.Refused r) × AtMost (at + length d * (growth * growth)) (Answer.Refused r)
-  lay-refused r is = ((replacement-refused d store (length w) r is, λ e. refl, refl), tt)
+      → Lays (replacement d store (length w)) o o at (Answer.Refused r) × AtMost (at + length d * (growth * growth)) (Answer.Refused r)
+  lay-refused r is = ((replacement-refused d store (length w) r is, refl), tt)
 
   pub lay-accepted : (w′ : List ℕ) (n : ℕ) (r : Answer) → Drafted d store w w′ n
-      → Lays (secondPass store (take n w′)) true o o′ at r → AtMost (at + length (take n w′) * growth) r
-      → Lays (replacement d store (length w)) true o o′ at r × AtMost (at + length d * (growth * growth)) r
+      → Lays (secondPass store (take n w′)) o o′ at r → AtMost (at + length (take n w′) * growth) r
+      → Lays (replacement d store (length w)) o o′ at r × AtMost (at + length d * (growth * growth)) r
   lay-accepted w′ n r q h l =
       let long = front-long d store w w′ n q in
       let most = q .most in

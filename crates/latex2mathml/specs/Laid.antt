@@ -1,4 +1,4 @@
--- What it is to lay a text into a buffer at a place: it is written there, written there if it fits, or only counted.
+-- What it is to lay a text into a buffer at a place: it is written there, or written there if it fits and only counted if not.
 -- Assumes nothing.
 use mathlib.Core.Path.{_≡_}
 use mathlib.Core.Bool.{Bool, true, false}
@@ -14,23 +14,21 @@ use Rattle.latex2mathml.specs.Outcome.{Outcome, accepted, refused, _>>=_
 use Rattle.latex2mathml.specs.Replace.{threeDollars, places, odd, substitute}
 use Rattle.latex2mathml.specs.Dollars.{mark, width}
 
--- the buffer that was o holds m at the place `at`, if m fits there, and what lies before the place is unchanged; where nothing is
--- written all of it is
-abbrev pub Laid : Bool → List ℕ → List ℕ → ℕ → List ℕ → Type 0
-Laid true o o′ at m = (at + length m ≤ length o → o′ ≡ put true o at m) × (take at o′ ≡ take at o)
-Laid false o o′ at m = o′ ≡ o
+-- the buffer that was o holds m at the place `at`, if m fits there, and what lies before the place is unchanged
+abbrev pub Laid : List ℕ → List ℕ → ℕ → List ℕ → Type 0
+Laid o o′ at m = (at + length m ≤ length o → o′ ≡ put true o at m) × (take at o′ ≡ take at o)
 
 -- what is wanted is accepted and laid at the place, and r is the place behind it
-pub record LaidThere (want : Outcome (List ℕ)) (write : Bool) (o o′ : List ℕ) (at r : ℕ) : Type 0 where
+pub record LaidThere (want : Outcome (List ℕ)) (o o′ : List ℕ) (at r : ℕ) : Type 0 where
   pub text : List ℕ
   pub is : want ≡ accepted text
   pub place : r ≡ at + length text
-  pub laid : Laid write o o′ at text
+  pub laid : Laid o o′ at text
 
--- .. or it is refused, and only what lies behind the place may have changed, nothing where nothing is written
-abbrev pub Lays : Outcome (List ℕ) → Bool → List ℕ → List ℕ → ℕ → Answer → Type 0
-Lays want write o o′ at (Answer.Accepted r) = LaidThere want write o o′ at r
-Lays want write o o′ at (Answer.Refused r) = (want ≡ refused r) × (write ≡ false → o′ ≡ o) × (take at o′ ≡ take at o)
+-- .. or it is refused, and only what lies behind the place may have changed
+abbrev pub Lays : Outcome (List ℕ) → List ℕ → List ℕ → ℕ → Answer → Type 0
+Lays want o o′ at (Answer.Accepted r) = LaidThere want o o′ at r
+Lays want o o′ at (Answer.Refused r) = (want ≡ refused r) × (take at o′ ≡ take at o)
 
 -- there is room for what is wanted, if it is accepted; where it is sure to fit, in the buffer
 abbrev pub RoomFor : Outcome (List ℕ) → Bool → List ℕ → ℕ → Type 0
@@ -47,6 +45,13 @@ pub record WrittenThere (want : Outcome (List ℕ)) (o o′ : List ℕ) (at r : 
   pub text : List ℕ
   pub is : want ≡ accepted text
   pub puts : Puts true o o′ at text r
+
+-- what is wanted is accepted and has n bytes, and the buffer begins with it if it has as many
+pub record Begins (want : Outcome (List ℕ)) (o : List ℕ) (n : ℕ) : Type 0 where
+  pub text : List ℕ
+  pub is : want ≡ accepted text
+  pub long : n ≡ length text
+  pub front : n ≤ length o → take n o ≡ text
 
 -- what is wanted, or 12 where an output of `room` bytes is too small for it
 abbrev pub inRoom : ℕ → Outcome (List ℕ) → Outcome (List ℕ)

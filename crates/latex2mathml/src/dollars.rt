@@ -21,22 +21,39 @@ pub fn next_dollar(s: &[u8], from: usize) -> usize
     i
 }
 
-// The place of the first two dollars side by side from a place on, or the length.
+// Whether a dollar stands anywhere. It goes on to the end in any case, so that many bytes are tested at once.
+fn has_dollar(s: &[u8]) -> bool
+    ensures { λ r. ⌜ r ≡ ltb 0 (length (places dollar 0 (now (s .entry)))) ⌝ }
+{
+    let mut found = false;
+    let mut i = 0;
+    while i < s.len() {
+        if s[i] == b'$' {
+            found = true;
+        }
+        i += 1;
+    }
+    found
+}
+
+// The place of the first two dollars side by side from a place on, or the length. Where the second of two bytes is none, neither of
+// them begins two.
 pub fn next_window(s: &[u8], from: usize) -> usize
     requires { ⌜ from ≤ length (now s) ⌝ }
     ensures { λ r. ⌜ (r ≡ nextPlace twoDollars from (drop from (now (s .entry)))) × (from ≤ r) × (r ≤ length (now (s .entry))) ⌝ }
 {
     let mut i = from;
-    loop {
-        i = next_dollar(s, i);
-        if s.len() - i < 2 {
-            return s.len();
+    while 1 < s.len() - i {
+        if s[i + 1] != b'$' {
+            i += 2;
+            continue;
         }
-        if s[i + 1] == b'$' {
+        if s[i] == b'$' {
             return i;
         }
         i += 1;
     }
+    s.len()
 }
 
 // The place of the next mark, which is one dollar or two.
@@ -50,20 +67,55 @@ pub fn next_mark(s: &[u8], from: usize, double: bool) -> usize
     next_dollar(s, from)
 }
 
-// Whether the number of marks is odd; windows of two dollars may overlap.
-pub fn odd_marks(s: &[u8], double: bool) -> bool
-    ensures { λ r. ⌜ r ≡ odd (places (mark double) 0 (now (s .entry))) ⌝ }
+// The place of the first mark, or the length; a text without dollars has none.
+pub fn first_mark(s: &[u8], double: bool) -> usize
+    ensures { λ r. ⌜ r ≡ nextPlace (mark double) 0 (now (s .entry)) ⌝ }
+{
+    if has_dollar(s) {
+        return next_mark(s, 0, double);
+    }
+    s.len()
+}
+
+// Whether the number of dollars is odd. Many bytes are tested at once, as above.
+fn odd_dollars(s: &[u8]) -> bool
+    ensures { λ r. ⌜ r ≡ odd (places dollar 0 (now (s .entry))) ⌝ }
+{
+    let mut is_odd = false;
+    let mut i = 0;
+    while i < s.len() {
+        if s[i] == b'$' {
+            is_odd = !is_odd;
+        }
+        i += 1;
+    }
+    is_odd
+}
+
+// Whether the number of windows of two dollars, which may overlap, is odd.
+fn odd_windows(s: &[u8]) -> bool
+    ensures { λ r. ⌜ r ≡ odd (places twoDollars 0 (now (s .entry))) ⌝ }
 {
     let mut is_odd = false;
     let mut i = 0;
     loop {
-        i = next_mark(s, i, double);
+        i = next_window(s, i);
         if i == s.len() {
             return is_odd;
         }
         is_odd = !is_odd;
         i += 1;
     }
+}
+
+// Whether the number of marks is odd.
+pub fn odd_marks(s: &[u8], double: bool) -> bool
+    ensures { λ r. ⌜ r ≡ odd (places (mark double) 0 (now (s .entry))) ⌝ }
+{
+    if double {
+        return odd_windows(s);
+    }
+    odd_dollars(s)
 }
 
 // Whether three dollars stand in a row.

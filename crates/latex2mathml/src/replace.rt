@@ -1,5 +1,6 @@
 // Replacement: the Rust's `replace`, in two passes over a document.
 use crate::Answer;
+use crate::dollars::first_mark;
 use crate::dollars::next_mark;
 use crate::dollars::odd_marks;
 use crate::dollars::three_dollars;
@@ -17,49 +18,45 @@ ghost use lib.ListN.{length};
 ghost use Rattle.latex2mathml.specs.Replace.{translateBody, firstPass, secondPass, replacement};
 ghost use Rattle.latex2mathml.specs.Dollars.{width};
 ghost use Rattle.latex2mathml.specs.Written.{Gives, Replaces};
-ghost use Rattle.latex2mathml.specs.Laid.{Laid, Lays, RoomFor, Fits, WrittenThere, inRoom, passed, growth, Passable, AtMost};
+ghost use Rattle.latex2mathml.specs.Laid.{Laid, Lays, RoomFor, Fits, WrittenThere, Begins, inRoom, passed, growth, Passable, AtMost};
 
-// Lays a piece at a place, or counts it; the answer is the place behind it.
-pub fn lay(piece: &[u8], out: &mut [u8], at: usize, write: bool) -> usize
+// Lays a piece at a place, or counts it where it does not fit; the answer is the place behind it.
+pub fn lay(piece: &[u8], out: &mut [u8], at: usize) -> usize
     requires { ⌜ at + length (now piece) < 2 ^ 64 ⌝ }
-    ensures { λ r. ⌜ (r ≡ at + length (now (piece .entry))) × Laid write (now (out .entry)) (now (out .exit)) at (now (piece .entry)) ⌝ }
+    ensures { λ r. ⌜ (r ≡ at + length (now (piece .entry))) × Laid (now (out .entry)) (now (out .exit)) at (now (piece .entry)) ⌝ }
 {
     let end = at + piece.len();
     if out.len() < end {
         return end;
     }
-    put(piece, out, at, write)
+    put(piece, out, at, true)
 }
 
-// Lays the markup of a body at a place, or counts it; what is sure to fit is not measured first.
+// Lays the markup of a body at a place, or counts it where it does not fit; what is sure to fit is not measured first.
 fn lay_body(
     s: &[u8],
     display: DisplayStyle,
     store: &mut [u8],
     out: &mut [u8],
     at: usize,
-    write: bool,
     sure: bool,
 ) -> Answer
     requires { ⌜ RoomFor (translateBody (length (now store)) display (now s)) sure (now out) at ⌝ }
-    ensures { λ r. ⌜ Lays (translateBody (length (now (store .entry))) display (now (s .entry))) write (now (out .entry)) (now (out .exit)) at r ⌝ }
+    ensures { λ r. ⌜ Lays (translateBody (length (now (store .entry))) display (now (s .entry))) (now (out .entry)) (now (out .exit)) at r ⌝ }
 {
     match parse(s, store, 256) {
         ParsedNodes::Refused(r) => Answer::Refused(r),
         ParsedNodes::Nodes(first, count, made) => {
             let n = count as u32;
             if sure {
-                let end = put_math(s, display, store, first, n, made, out, at, write);
+                let end = put_math(s, display, store, first, n, made, out, at, true);
                 return Answer::Accepted(end);
             }
             let end = put_math(s, display, store, first, n, made, out, at, false);
             if out.len() < end {
                 return Answer::Accepted(end);
             }
-            if write {
-                put_math(s, display, store, first, n, made, out, at, true);
-                return Answer::Accepted(end);
-            }
+            put_math(s, display, store, first, n, made, out, at, true);
             Answer::Accepted(end)
         }
     }
@@ -83,11 +80,10 @@ fn substitute(
     store: &mut [u8],
     out: &mut [u8],
     start: usize,
-    write: bool,
     sure: bool,
 ) -> Answer
     requires { ⌜ Passable (length (now store)) display double (now s) sure (now out) start ⌝ }
-    ensures { λ r. ⌜ Lays (passed (length (now (store .entry))) display double (now (s .entry))) write (now (out .entry)) (now (out .exit)) start r × AtMost (start + length (now (s .entry)) * growth) r ⌝ }
+    ensures { λ r. ⌜ Lays (passed (length (now (store .entry))) display double (now (s .entry))) (now (out .entry)) (now (out .exit)) start r × AtMost (start + length (now (s .entry)) * growth) r ⌝ }
 {
     let width = width(double);
     let mut from: usize = 0;
@@ -95,11 +91,11 @@ fn substitute(
     loop {
         let a = next_mark(s, from, double);
         if a == s.len() {
-            return Answer::Accepted(lay(&s[from..], out, at, write));
+            return Answer::Accepted(lay(&s[from..], out, at));
         }
         let b = next_mark(s, a + width, double);
-        at = lay(&s[from..a], out, at, write);
-        match lay_body(&s[a + width..b], display, store, out, at, write, sure) {
+        at = lay(&s[from..a], out, at);
+        match lay_body(&s[a + width..b], display, store, out, at, sure) {
             Answer::Refused(r) => {
                 return Answer::Refused(r);
             }
@@ -123,15 +119,15 @@ fn write_pass(
     requires { ⌜ Passable (length (now store)) display double (now s) true (now out) at ⌝ }
     ensures { λ r. ⌜ WrittenThere (passed (length (now (store .entry))) display double (now (s .entry))) (now (out .entry)) (now (out .exit)) at r × (r ≤ at + length (now (s .entry)) * growth) ⌝ }
 {
-    match substitute(s, double, display, store, out, at, true, true) {
+    match substitute(s, double, display, store, out, at, true) {
         Answer::Accepted(end) => end,
         Answer::Refused(r) => at,
     }
 }
 
-// Pass one: its text goes to the work buffer if it is to be written and fits. A text without marks is looked through once.
-fn first_pass(document: &[u8], store: &mut [u8], work: &mut [u8], write: bool) -> Answer
-    ensures { λ r. ⌜ Lays (firstPass (now (document .entry)) (length (now (store .entry))) (length (now (work .entry)))) write (now (work .entry)) (now (work .exit)) 0 r × AtMost (length (now (document .entry)) * growth) r ⌝ }
+// Pass one, with `room` bytes for its text: it goes to a buffer if it fits there. A text without marks is looked through once.
+fn first_pass(document: &[u8], store: &mut [u8], room: usize, out: &mut [u8]) -> Answer
+    ensures { λ r. ⌜ Lays (firstPass (now (document .entry)) (length (now (store .entry))) room) (now (out .entry)) (now (out .exit)) 0 r × AtMost (length (now (document .entry)) * growth) r ⌝ }
 {
     if 32768 < document.len() {
         return Answer::Refused(Refusal::TooLong);
@@ -139,11 +135,11 @@ fn first_pass(document: &[u8], store: &mut [u8], work: &mut [u8], write: bool) -
     if !well_formed(document) {
         return Answer::Refused(Refusal::IllFormed);
     }
-    if next_mark(document, 0, true) == document.len() {
-        if work.len() < document.len() {
+    if first_mark(document, true) == document.len() {
+        if room < document.len() {
             return Answer::Refused(Refusal::WorkTooSmall);
         }
-        return Answer::Accepted(lay(document, work, 0, write));
+        return Answer::Accepted(lay(document, out, 0));
     }
     if odd_marks(document, true) {
         return Answer::Refused(Refusal::InvalidNumberOfDollarSigns);
@@ -151,19 +147,10 @@ fn first_pass(document: &[u8], store: &mut [u8], work: &mut [u8], write: bool) -
     if three_dollars(document) {
         return Answer::Refused(Refusal::ThreeDollarSigns);
     }
-    match substitute(
-        document,
-        true,
-        DisplayStyle::Block,
-        store,
-        work,
-        0,
-        write,
-        false,
-    ) {
+    match substitute(document, true, DisplayStyle::Block, store, out, 0, false) {
         Answer::Refused(r) => Answer::Refused(r),
         Answer::Accepted(n) => {
-            if work.len() < n {
+            if room < n {
                 return Answer::Refused(Refusal::WorkTooSmall);
             }
             Answer::Accepted(n)
@@ -171,57 +158,92 @@ fn first_pass(document: &[u8], store: &mut [u8], work: &mut [u8], write: bool) -
     }
 }
 
-// Pass two: its text goes to a place of the output if it is to be written and fits.
-fn second_pass(text: &[u8], store: &mut [u8], out: &mut [u8], at: usize, write: bool) -> Answer
+// Pass two: its text goes to a place of a buffer if it fits there.
+fn second_pass(text: &[u8], store: &mut [u8], out: &mut [u8], at: usize) -> Answer
     requires { ⌜ at + length (now text) * growth < 2 ^ 64 ⌝ }
-    ensures { λ r. ⌜ Lays (secondPass (length (now (store .entry))) (now (text .entry))) write (now (out .entry)) (now (out .exit)) at r × AtMost (at + length (now (text .entry)) * growth) r ⌝ }
+    ensures { λ r. ⌜ Lays (secondPass (length (now (store .entry))) (now (text .entry))) (now (out .entry)) (now (out .exit)) at r × AtMost (at + length (now (text .entry)) * growth) r ⌝ }
 {
-    if next_mark(text, 0, false) == text.len() {
-        return Answer::Accepted(lay(text, out, at, write));
+    if first_mark(text, false) == text.len() {
+        return Answer::Accepted(lay(text, out, at));
     }
     if odd_marks(text, false) {
         return Answer::Refused(Refusal::InvalidNumberOfDollarSigns);
     }
-    substitute(
-        text,
-        false,
-        DisplayStyle::Inline,
-        store,
-        out,
-        at,
-        write,
-        false,
-    )
+    substitute(text, false, DisplayStyle::Inline, store, out, at, false)
 }
 
-// Pass two, measured and then written.
-fn finish(text: &[u8], store: &mut [u8], out: &mut [u8]) -> Answer
+// Writes the text of a pass that was drafted: it is copied, or parsed again where the draft is too short for it.
+fn settle(
+    s: &[u8],
+    double: bool,
+    display: DisplayStyle,
+    store: &mut [u8],
+    draft: &[u8],
+    n: usize,
+    out: &mut [u8],
+) -> usize
+    requires { ⌜ Passable (length (now store)) display double (now s) true (now out) 0 × Begins (passed (length (now store)) display double (now s)) (now draft) n ⌝ }
+    ensures { λ r. ⌜ WrittenThere (passed (length (now (store .entry))) display double (now (s .entry))) (now (out .entry)) (now (out .exit)) 0 r ⌝ }
+{
+    if n <= draft.len() {
+        return put(&draft[..n], out, 0, true);
+    }
+    write_pass(s, double, display, store, out, 0)
+}
+
+// Pass two, drafted and then written.
+fn finish(text: &[u8], store: &mut [u8], out: &mut [u8], draft: &mut [u8]) -> Answer
     requires { ⌜ length (now text) * growth < 2 ^ 64 ⌝ }
     ensures { λ r. ⌜ Gives (inRoom (length (now (out .entry))) (secondPass (length (now (store .entry))) (now (text .entry)))) r (now (out .entry)) (now (out .exit)) ⌝ }
 {
-    match second_pass(text, store, out, 0, false) {
+    match second_pass(text, store, draft, 0) {
         Answer::Refused(r) => Answer::Refused(r),
         Answer::Accepted(n) => {
             if out.len() < n {
                 return Answer::Refused(Refusal::OutputTooSmall);
             }
-            write_pass(text, false, DisplayStyle::Inline, store, out, 0);
+            settle(text, false, DisplayStyle::Inline, store, draft, n, out);
             Answer::Accepted(n)
         }
     }
+}
+
+// The replacement in a document, with an array for its drafts: a pass whose text fits there is parsed once.
+fn replace_in(
+    document: &[u8],
+    store: &mut [u8],
+    work: &mut [u8],
+    out: &mut [u8],
+    draft: &mut [u8],
+) -> Answer
+    ensures { λ r. ⌜ Replaces (now (document .entry)) (length (now (store .entry))) r (now (work .entry)) (now (work .exit)) (now (out .entry)) (now (out .exit)) ⌝ }
+{
+    match first_pass(document, store, work.len(), draft) {
+        Answer::Refused(r) => Answer::Refused(r),
+        Answer::Accepted(n) => {
+            settle(document, true, DisplayStyle::Block, store, draft, n, work);
+            finish(&work[..n], store, out, draft)
+        }
+    }
+}
+
+// The replacement in a short document, whose drafts take less space to clear.
+fn replace_short(document: &[u8], store: &mut [u8], work: &mut [u8], out: &mut [u8]) -> Answer
+    ensures { λ r. ⌜ Replaces (now (document .entry)) (length (now (store .entry))) r (now (work .entry)) (now (work .exit)) (now (out .entry)) (now (out .exit)) ⌝ }
+{
+    let mut draft = [0u8; 16384];
+    replace_in(document, store, work, out, &mut draft)
 }
 
 // The replacement in a document.
 pub fn replace(document: &[u8], store: &mut [u8], work: &mut [u8], out: &mut [u8]) -> Answer
     ensures { λ r. ⌜ Replaces (now (document .entry)) (length (now (store .entry))) r (now (work .entry)) (now (work .exit)) (now (out .entry)) (now (out .exit)) ⌝ }
 {
-    match first_pass(document, store, work, false) {
-        Answer::Refused(r) => Answer::Refused(r),
-        Answer::Accepted(n) => {
-            write_pass(document, true, DisplayStyle::Block, store, work, 0);
-            finish(&work[..n], store, out)
-        }
+    if document.len() < 2048 {
+        return replace_short(document, store, work, out);
     }
+    let mut draft = [0u8; 65536];
+    replace_in(document, store, work, out, &mut draft)
 }
 
 // Lays the replacement in a document at a place, as for an output long enough; the work buffer is left with any bytes.
@@ -233,11 +255,11 @@ pub fn lay_replacement(
     at: usize,
 ) -> Answer
     requires { ⌜ at + length (now document) * (growth * growth) < 2 ^ 63 ⌝ }
-    ensures { λ r. ⌜ Lays (replacement (now (document .entry)) (length (now (store .entry))) (length (now (work .entry)))) true (now (out .entry)) (now (out .exit)) at r × AtMost (at + length (now (document .entry)) * (growth * growth)) r ⌝ }
+    ensures { λ r. ⌜ Lays (replacement (now (document .entry)) (length (now (store .entry))) (length (now (work .entry)))) (now (out .entry)) (now (out .exit)) at r × AtMost (at + length (now (document .entry)) * (growth * growth)) r ⌝ }
 {
-    match first_pass(document, store, work, true) {
+    match first_pass(document, store, work.len(), work) {
         Answer::Refused(r) => Answer::Refused(r),
-        Answer::Accepted(n) => second_pass(&work[..n], store, out, at, true),
+        Answer::Accepted(n) => second_pass(&work[..n], store, out, at),
     }
 }
 

@@ -1,13 +1,16 @@
--- The line feeds at a place of a text.
+-- The line feeds at a place of a text, and the next break from there on.
 -- Assumes nothing.
 use mathlib.Core.Path.{_≡_, refl, _∙_}
 use mathlib.Core.Bool.{Bool, true, false, _&&_, and-false}
 use mathlib.Core.List.{List, [], _∷_}
-use Prim.Native.Nat.{ℕ, zero, suc, _+_, _≤_}
+use Prim.Native.Nat.{ℕ, zero, suc, _+_, _-_, _≤_, _<_}
+use native.Mathlib.Omega.{arith}
 use lib.Dec.{eqb}
 use lib.ListN.{length, drop, getD, drop-of-length-le}
 use lib.Seq.{drop-drop}
 use borrow.Author.Tests.{eq-eqb, ne-eqb}
+use Rattle.latex2mathml.specs.Dollars.{nextPlace}
+use Rattle.latex2mathml.proofs.PlaceLaws.{next-here, next-more, next-none}
 use Rattle.page.specs.Breaks.{lineFeed, twoLineFeeds, noLineFeed}
 
 -- a byte is a line feed where it stands
@@ -38,12 +41,27 @@ module _ (s : List ℕ) (i : ℕ) where
   unfolding twoLineFeeds
   two-at a b first next = rw (first, drop-drop 1 i s, next)
 
-  pub two-first : (getD s i 0 ≡ 10 → ⊥) → twoLineFeeds (drop i s) ≡ false
+  two-first : (getD s i 0 ≡ 10 → ⊥) → twoLineFeeds (drop i s) ≡ false
   two-first e = two-at false _ (feed-not e) refl
 
-  pub two-end : length s ≤ i + 1 → twoLineFeeds (drop i s) ≡ false
+  two-end : length s ≤ i + 1 → twoLineFeeds (drop i s) ≡ false
   unfolding lineFeed
   two-end h = two-at _ false refl (rw (drop-of-length-le s h)) ∙ and-false (lineFeed (drop i s))
 
-  pub two-next : getD s i 0 ≡ 10 → twoLineFeeds (drop i s) ≡ eqb (getD s (i + 1) 0) 10
-  two-next e = two-at true _ (feed-is e) (line-feed-at s (i + 1))
+-- The next break from i on.
+module _ (s : List ℕ) (i : ℕ) where
+  -- where no line feed stands behind i, it is the next from i + 2 on
+  pub break-past : i + 1 < length s → (getD s (i + 1) 0 ≡ 10 → ⊥) → nextPlace twoLineFeeds i (drop i s) ≡ nextPlace twoLineFeeds (i + 2) (drop (i + 2) s)
+  break-past h e =
+      let two : i + 1 + 1 ≡ i + 2 = omega arith in
+      let here = two-at s i _ false refl (feed-not s (i + 1) e) ∙ and-false (lineFeed (drop i s)) in
+      next-more twoLineFeeds s i (omega arith) here ∙ rw (← two) (next-more twoLineFeeds s (i + 1) h (two-first s (i + 1) e))
+
+  pub break-here : i + 1 < length s → getD s (i + 1) 0 ≡ 10 → getD s i 0 ≡ 10 → nextPlace twoLineFeeds i (drop i s) ≡ i
+  break-here h e f = next-here twoLineFeeds s i (omega arith) (two-at s i true true (feed-is s i f) (feed-is s (i + 1) e))
+
+  pub break-more : i + 1 < length s → (getD s i 0 ≡ 10 → ⊥) → nextPlace twoLineFeeds i (drop i s) ≡ nextPlace twoLineFeeds (i + 1) (drop (i + 1) s)
+  break-more h f = next-more twoLineFeeds s i (omega arith) (two-first s i f)
+
+  pub break-none : i ≤ length s → length s - i ≤ 1 → nextPlace twoLineFeeds i (drop i s) ≡ length s
+  break-none h short = next-none twoLineFeeds s i h (λ j l. two-end s j (omega arith))

@@ -102,7 +102,7 @@ module _ {s : List ℕ} {store work from at k refused : ℕ} {d d′ m m′ : Li
         let wide = are .0 in
         omega arith
 
-    pub drafting-more : (d″ : List ℕ) (at′ : ℕ) → at′ ≡ n + length (part e b s) → Laid true d′ d″ n (part e b s) → length d′ ≡ length d → length d″ ≡ length d′
+    pub drafting-more : (d″ : List ℕ) (at′ : ℕ) → at′ ≡ n + length (part e b s) → Laid d′ d″ n (part e b s) → length d′ ≡ length d → length d″ ≡ length d′
         → Drafting s store work b at′ (k + 1) (refused + getD m′ k 0) d″ m′
     unfolding shownAll paragraphs leftAll marks
     drafting-more d″ at′ place laid same same′ =

@@ -23,7 +23,7 @@ by-outcome (accepted text) f g = f text refl
 by-outcome (refused r) f g = g r refl
 
 -- what is laid stands behind what lies before its place
-pub laid-next : (d d′ bs : List ℕ) (at n : ℕ) → n ≡ at + length bs → n ≤ length d → Laid true d d′ at bs → take n d′ ≡ take at d ++ bs
+pub laid-next : (d d′ bs : List ℕ) (at n : ℕ) → n ≡ at + length bs → n ≤ length d → Laid d d′ at bs → take n d′ ≡ take at d ++ bs
 unfolding put
 laid-next d d′ bs at n place fits laid =
     rw (laid .0 (omega arith)) (take-at (take at d ++ bs) (drop (at + length bs) d) n (length-append (take at d) bs ∙ rw (length-take-le at d (omega arith)) (sym place)))
@@ -52,7 +52,7 @@ module _ (p : List ℕ) (store work : ℕ) where
 
   -- what is drafted of it
   module _ (d d′ m : List ℕ) (at k : ℕ) where
-    pub drafted-replaced : (n : ℕ) → Lays (replacement p store work) true d d′ at (Answer.Accepted n) → AtMost (at + length p * (growth * growth)) (Answer.Accepted n)
+    pub drafted-replaced : (n : ℕ) → Lays (replacement p store work) d d′ at (Answer.Accepted n) → AtMost (at + length p * (growth * growth)) (Answer.Accepted n)
         → Drafted p store work d d′ at m (set m k 0) k n
     drafted-replaced n h most =
         let e = shown-replaced (h .text) (h .is) in
@@ -64,14 +64,14 @@ module _ (p : List ℕ) (store work : ℕ) where
           mark = rw (left-replaced (h .text) (h .is));
         }
 
-    pub drafted-typed : (d₁ : List ℕ) (r : Refusal) (n : ℕ) → Lays (replacement p store work) true d d₁ at (Answer.Refused r) → length d₁ ≡ length d
-        → n ≡ at + length p → Laid true d₁ d′ at p → Drafted p store work d d′ at m (set m k 1) k n
+    pub drafted-typed : (d₁ : List ℕ) (r : Refusal) (n : ℕ) → Lays (replacement p store work) d d₁ at (Answer.Refused r) → length d₁ ≡ length d
+        → n ≡ at + length p → Laid d₁ d′ at p → Drafted p store work d d′ at m (set m k 1) k n
     drafted-typed d₁ r n h same place laid =
         let e = shown-typed r (h .0) in
         record {
           place = rw e place;
           most = omega arith;
-          front = λ fits. rw (e, ← h .2) (laid-next d₁ d′ p at n place (omega arith) laid);
+          front = λ fits. rw (e, ← h .1) (laid-next d₁ d′ p at n place (omega arith) laid);
           mark = rw (left-typed r (h .0));
         }
 

@@ -1,37 +1,27 @@
 // The breaks of a document: where the next one begins, and where it ends.
 ghost use mathlib.Core.Path.{_≡_};
-ghost use Prim.Native.Nat.{_≤_, _<_};
+ghost use Prim.Native.Nat.{_≤_};
 ghost use lib.ListN.{length, drop};
 ghost use Rattle.latex2mathml.specs.Dollars.{nextPlace};
 ghost use Rattle.page.specs.Breaks.{twoLineFeeds, noLineFeed};
 
-// Whether two line feeds stand at a place.
-fn begins_break(s: &[u8], i: usize) -> bool
-    requires { ⌜ i < length (now s) ⌝ }
-    ensures { λ r. ⌜ r ≡ twoLineFeeds (drop i (now (s .entry))) ⌝ }
-{
-    if s[i] != b'\n' {
-        return false;
-    }
-    if s.len() - i < 2 {
-        return false;
-    }
-    s[i + 1] == b'\n'
-}
-
-// The place of the first two line feeds from a place on, or the length.
+// The place of the first two line feeds from a place on, or the length. Where the second of two bytes is none, neither of them begins two.
 pub fn next_break(s: &[u8], from: usize) -> usize
     requires { ⌜ from ≤ length (now s) ⌝ }
     ensures { λ r. ⌜ (r ≡ nextPlace twoLineFeeds from (drop from (now (s .entry)))) × (from ≤ r) × (r ≤ length (now (s .entry))) ⌝ }
 {
     let mut i = from;
-    while i < s.len() {
-        if begins_break(s, i) {
+    while 1 < s.len() - i {
+        if s[i + 1] != b'\n' {
+            i += 2;
+            continue;
+        }
+        if s[i] == b'\n' {
             return i;
         }
         i += 1;
     }
-    i
+    s.len()
 }
 
 // The first place from a place on where no line feed stands, or the length.

@@ -31,7 +31,7 @@ fn draft_paragraph(
         }
         Answer::Refused(_) => {
             left[k] = 1;
-            lay(p, draft, at, true)
+            lay(p, draft, at)
         }
     }
 }
@@ -51,7 +51,7 @@ pub fn draft_page(
     draft: &mut [u8],
     left: &mut [u8],
 ) -> Totals
-    requires { ⌜ (length (now document) ≤ 32768) × (16385 ≤ length (now left)) ⌝ }
+    requires { ⌜ (length (now document) ≤ 32768) × (length (now document) < 2 * length (now left)) ⌝ }
     ensures { λ r. ⌜ Totalled (now (document .entry)) (length (now (store .entry))) (length (now (work .entry))) (now (draft .exit)) (now (left .exit)) r ⌝ }
 {
     let mut from: usize = 0;
@@ -71,6 +71,6 @@ pub fn draft_page(
             };
         }
         from = break_end(document, e);
-        at = lay(&document[e..from], draft, at, true);
+        at = lay(&document[e..from], draft, at);
     }
 }

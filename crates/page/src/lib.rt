@@ -7,7 +7,7 @@ use crate::draft::draft_page;
 use crate::write::write_page;
 use error::Refusal;
 use text::put::put;
-ghost use Prim.Native.Nat.{_≤_};
+ghost use Prim.Native.Nat.{_*_, _≤_, _<_};
 ghost use lib.ListN.{length};
 ghost use Rattle.page.specs.Run.{Pages};
 
@@ -33,7 +33,7 @@ fn page_in(
     draft: &mut [u8],
     left: &mut [u8],
 ) -> PageAnswer
-    requires { ⌜ (length (now document) ≤ 32768) × (16385 ≤ length (now left)) ⌝ }
+    requires { ⌜ (length (now document) ≤ 32768) × (length (now document) < 2 * length (now left)) ⌝ }
     ensures { λ r. ⌜ Pages (now (document .entry)) (length (now (store .entry))) (length (now (work .entry))) r (now (out .entry)) (now (out .exit)) ⌝ }
 {
     let totals = draft_page(document, store, work, draft, left);
@@ -49,12 +49,25 @@ fn page_in(
     PageAnswer::Accepted(n, totals.paragraphs, totals.left)
 }
 
+// The page operation on a short document, whose draft and marks take less space to clear.
+fn short_page(document: &[u8], store: &mut [u8], work: &mut [u8], out: &mut [u8]) -> PageAnswer
+    requires { ⌜ length (now document) < 2048 ⌝ }
+    ensures { λ r. ⌜ Pages (now (document .entry)) (length (now (store .entry))) (length (now (work .entry))) r (now (out .entry)) (now (out .exit)) ⌝ }
+{
+    let mut draft = [0u8; 16384];
+    let mut left = [0u8; 1024];
+    page_in(document, store, work, out, &mut draft, &mut left)
+}
+
 // The page operation; a document of 32,768 bytes has at most 16,385 paragraphs.
 pub fn page(document: &[u8], store: &mut [u8], work: &mut [u8], out: &mut [u8]) -> PageAnswer
     ensures { λ r. ⌜ Pages (now (document .entry)) (length (now (store .entry))) (length (now (work .entry))) r (now (out .entry)) (now (out .exit)) ⌝ }
 {
     if 32768 < document.len() {
         return PageAnswer::Refused(Refusal::TooLong);
+    }
+    if document.len() < 2048 {
+        return short_page(document, store, work, out);
     }
     let mut draft = [0u8; 65536];
     let mut left = [0u8; 16385];

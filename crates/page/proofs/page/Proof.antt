@@ -8,19 +8,14 @@ use Rattle.page.proofs.page.Tie as tie
 use Rattle.page.proofs.page.Reads as reads
 use Rattle.page.proofs.page.Lts as lts
 use Rattle.page.proofs.page_in.Reads as page-in-reads
+use Rattle.page.proofs.short_page.Reads as short-page-reads
 
 returns : tie.Need-returns
 returns c =
     pages-long ((c .before .before .before .before .before .args) .document .now) (length ((c .before .before .before .before .before .args) .store .now)) (length ((c .before .before .before .before .before .args) .work .now)) ((c .before .before .before .before .before .args) .out .now) ((c .if1) .taken)
 
-slice-aggregate-page-in : tie.Need-slice-aggregate-page-in
-slice-aggregate-page-in c = search needs
-
-slice-aggregate-page-in-2 : tie.Need-slice-aggregate-page-in-2
-slice-aggregate-page-in-2 c = search needs
-
-page-in-requires : tie.Need-page-in-requires
-page-in-requires c κs = search needs
+short-page-requires : tie.Need-short-page-requires
+short-page-requires c κs = search needs
 
 same-length : tie.Need-same-length
 same-length c = search needs
@@ -32,17 +27,43 @@ same-length-3 : tie.Need-same-length-3
 same-length-3 c = search needs
 
 returns-2 : tie.Need-returns-2
-returns-2 c = (c .before .before .before .before .before .before .before .before .page-in) .ensures
+returns-2 c = (c .before .before .before .before .before .before .short-page) .ensures
+
+slice-aggregate-page-in : tie.Need-slice-aggregate-page-in
+slice-aggregate-page-in c = search needs
+
+slice-aggregate-page-in-2 : tie.Need-slice-aggregate-page-in-2
+slice-aggregate-page-in-2 c = search needs
+
+page-in-requires : tie.Need-page-in-requires
+page-in-requires c κs = search needs
+
+same-length-4 : tie.Need-same-length-4
+same-length-4 c = search needs
+
+same-length-5 : tie.Need-same-length-5
+same-length-5 c = search needs
+
+same-length-6 : tie.Need-same-length-6
+same-length-6 c = search needs
+
+returns-3 : tie.Need-returns-3
+returns-3 c = (c .before .before .before .before .before .before .before .before .page-in) .ensures
 
 pub page-spec : {M : Type 1} → statement M
 page-spec =
     tie.close
     (tie.spec
     returns
-    slice-aggregate-page-in
-    slice-aggregate-page-in-2
-    page-in-requires
+    short-page-requires
     same-length
     same-length-2
     same-length-3
-    returns-2)
+    returns-2
+    slice-aggregate-page-in
+    slice-aggregate-page-in-2
+    page-in-requires
+    same-length-4
+    same-length-5
+    same-length-6
+    returns-3)

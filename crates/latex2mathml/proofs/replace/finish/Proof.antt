@@ -1,7 +1,7 @@
 -- `latex2mathml::replace::finish` meets its contract.
 use lib.ListN.{length}
 use Rattle.latex2mathml.specs.Replace.{secondPass}
-use Rattle.latex2mathml.proofs.ReplaceLaws.{finish-refused, too-small, second-passable, second-written, finished}
+use Rattle.latex2mathml.proofs.ReplaceLaws.{finish-refused, too-small, finish-passable, finish-begins, finished}
 use borrow.Author.Needs.{needs}
 use native.Mathlib.Omega.{arith}
 use Rattle.latex2mathml.proofs.replace.finish.Statement.{statement}
@@ -9,11 +9,11 @@ use Rattle.latex2mathml.proofs.replace.finish.Tie as tie
 use Rattle.latex2mathml.proofs.replace.finish.Reads as reads
 use Rattle.latex2mathml.proofs.replace.finish.Lts as lts
 use Rattle.latex2mathml.proofs.replace.second_pass.Reads as second-pass-reads
-use Rattle.latex2mathml.proofs.replace.write_pass.Reads as write-pass-reads
+use Rattle.latex2mathml.proofs.replace.settle.Reads as settle-reads
 
 second-pass-requires : tie.Need-second-pass-requires
 second-pass-requires c κs =
-    let small = (c .before .before .before .before .before .pre) in
+    let small = (c .before .before .before .before .before .before .pre) in
     omega arith
 
 enum-known-r : tie.Need-enum-known-r
@@ -31,14 +31,13 @@ same-length-2 c = search needs
 returns : tie.Need-returns
 returns c =
     let a = (rw ((c .before .before .n) .given .1) at ((c .before .before .before .before .before .before .before .before .second-pass) .ensures)) .0 in
-    too-small (secondPass (length ((c .before .before .before .before .before .before .before .before .before .before .before .before .before .before .args) .store .now)) ((c .before .before .before .before .before .before .before .before .before .before .before .before .before .before .args) .text .now)) ((c .before .before .n) .given .0 .0) ((c .before .before .before .before .before .before .before .before .before .before .before .before .before .before .args) .out .now) ((c .before .before .before .before .before .before .before .before .second-pass) .last .1 .1 .0) a ((c .if1) .taken)
+    too-small (length ((c .before .before .before .before .before .before .before .before .before .before .before .before .before .before .before .args) .store .now)) ((c .before .before .before .before .before .before .before .before .before .before .before .before .before .before .before .args) .text .now) ((c .before .before .n) .given .0 .0) ((c .before .before .before .before .before .before .before .before .before .before .before .before .before .before .before .args) .out .now) ((c .before .before .before .before .before .before .before .before .before .before .before .before .before .before .before .args) .draft .now) ((c .before .before .before .before .before .before .before .before .second-pass) .last .1 .1 .0) a ((c .if1) .taken)
 
-write-pass-requires : tie.Need-write-pass-requires
-write-pass-requires c κs =
-    let a = (rw ((c .before .before .before .before .n) .given .1) at ((c .before .before .before .before .before .before .before .before .before .before .second-pass) .ensures)) .0 in
-    let small = (c .before .before .before .before .before .before .before .before .before .before .before .before .before .before .before .before .pre) in
-    let long = a .place in
-    rw ((c .before .before .before .before .before .before .before .before .before .before .second-pass) .kept .1 .0) (second-passable (length ((c .before .before .before .before .before .before .before .before .before .before .before .before .before .before .before .before .args) .store .now)) ((c .before .before .before .before .before .before .before .before .before .before .before .before .before .before .before .before .args) .text .now) (a .text) (a .is) ((c .before .before .before .before .before .before .before .before .before .before .second-pass) .last .1 .1 .0) 0 (omega arith) (omega arith))
+settle-requires : tie.Need-settle-requires
+settle-requires c κs =
+    let a = (rw ((c .before .before .before .before .before .n) .given .1) at ((c .before .before .before .before .before .before .before .before .before .before .before .second-pass) .ensures)) .0 in
+    rw ((c .before .before .before .before .before .before .before .before .before .before .before .second-pass) .kept .1 .0)
+    (finish-passable (length ((c .before .before .before .before .before .before .before .before .before .before .before .before .before .before .before .before .before .before .args) .store .now)) ((c .before .before .before .before .before .before .before .before .before .before .before .before .before .before .before .before .before .before .args) .text .now) ((c .before .before .before .before .before .n) .given .0 .0) ((c .before .before .before .before .before .before .before .before .before .before .before .before .before .before .before .before .before .before .args) .out .now) ((c .before .before .before .before .before .before .before .before .before .before .before .before .before .before .before .before .before .before .args) .draft .now) ((c .before .before .before .before .before .before .before .before .before .before .before .second-pass) .last .1 .1 .0) a (c .before .before .before .before .before .before .before .before .before .before .before .before .before .before .before .before .before .before .pre) ((c .before .before .before .if1) .left), finish-begins (length ((c .before .before .before .before .before .before .before .before .before .before .before .before .before .before .before .before .before .before .args) .store .now)) ((c .before .before .before .before .before .before .before .before .before .before .before .before .before .before .before .before .before .before .args) .text .now) ((c .before .before .before .before .before .n) .given .0 .0) ((c .before .before .before .before .before .before .before .before .before .before .before .before .before .before .before .before .before .before .args) .out .now) ((c .before .before .before .before .before .before .before .before .before .before .before .before .before .before .before .before .before .before .args) .draft .now) ((c .before .before .before .before .before .before .before .before .before .before .before .second-pass) .last .1 .1 .0) a ((c .before .before .before .before .before .before .before .before .before .before .before .second-pass) .kept .1 .1 .0))
 
 same-length-3 : tie.Need-same-length-3
 same-length-3 c = search needs
@@ -49,7 +48,7 @@ same-length-4 c = search needs
 returns-2 : tie.Need-returns-2
 returns-2 c =
     let a = (rw ((c .before .r) .given .1) at ((c .before .before .before .before .before .before .before .second-pass) .ensures)) .0 in
-    finish-refused (secondPass (length ((c .before .before .before .before .before .before .before .before .before .before .before .before .before .args) .store .now)) ((c .before .before .before .before .before .before .before .before .before .before .before .before .before .args) .text .now)) ((c .before .r) .given .0 .0) ((c .before .before .before .before .before .before .before .before .before .before .before .before .before .args) .out .now) ((c .before .before .before .before .before .before .before .second-pass) .last .1 .1 .0) a
+    finish-refused (secondPass (length ((c .before .before .before .before .before .before .before .before .before .before .before .before .before .before .args) .store .now)) ((c .before .before .before .before .before .before .before .before .before .before .before .before .before .before .args) .text .now)) ((c .before .r) .given .0 .0) ((c .before .before .before .before .before .before .before .before .before .before .before .before .before .before .args) .out .now) (a .0)
 
 same-length-5 : tie.Need-same-length-5
 same-length-5 c = search needs
@@ -57,10 +56,13 @@ same-length-5 c = search needs
 same-length-6 : tie.Need-same-length-6
 same-length-6 c = search needs
 
+same-length-7 : tie.Need-same-length-7
+same-length-7 c = search needs
+
 returns-3 : tie.Need-returns-3
 returns-3 c =
-    let a = (rw ((c .before .before .before .before .before .before .before .before .before .n) .given .1) at ((c .before .before .before .before .before .before .before .before .before .before .before .before .before .before .before .second-pass) .ensures)) .0 in
-    finished (secondPass (length ((c .before .before .before .before .before .before .before .before .before .before .before .before .before .before .before .before .before .before .before .before .before .args) .store .now)) ((c .before .before .before .before .before .before .before .before .before .before .before .before .before .before .before .before .before .before .before .before .before .args) .text .now)) ((c .before .before .before .before .before .before .before .before .before .n) .given .0 .0) ((c .before .before .before .before .before .before .before .before .before .before .before .before .before .before .before .before .before .before .before .before .before .args) .out .now) ((c .before .before .before .before .before .before .before .before .before .before .before .before .before .before .before .second-pass) .last .1 .1 .0) a ((c .before .before .before .before .before .before .before .if1) .left) (second-written (length ((c .before .before .before .before .before .before .before .before .before .before .before .before .before .before .before .before .before .before .before .before .before .args) .store .now)) ((c .before .before .before .before .before .before .before .before .before .before .before .before .before .before .before .before .before .before .before .before .before .args) .text .now) (a .text) (a .is) (rw ((c .before .before .before .before .before .before .before .before .before .before .before .before .before .before .before .second-pass) .kept .1 .0) at ((c .before .before .before .before .write-pass) .ensures .0)))
+    let a = (rw ((c .before .before .before .before .before .before .before .before .before .before .n) .given .1) at ((c .before .before .before .before .before .before .before .before .before .before .before .before .before .before .before .before .second-pass) .ensures)) .0 in
+    finished (length ((c .before .before .before .before .before .before .before .before .before .before .before .before .before .before .before .before .before .before .before .before .before .before .before .args) .store .now)) ((c .before .before .before .before .before .before .before .before .before .before .before .before .before .before .before .before .before .before .before .before .before .before .before .args) .text .now) ((c .before .before .before .before .before .before .before .before .before .before .n) .given .0 .0) ((c .before .before .before .before .before .before .before .before .before .before .before .before .before .before .before .before .before .before .before .before .before .before .before .args) .out .now) ((c .before .before .before .before .before .before .before .before .before .before .before .before .before .before .before .before .before .before .before .before .before .before .before .args) .draft .now) ((c .before .before .before .before .before .before .before .before .before .before .before .before .before .before .before .before .second-pass) .last .1 .1 .0) a ((c .before .before .before .before .before .before .before .before .if1) .left) (rw ((c .before .before .before .before .before .before .before .before .before .before .before .before .before .before .before .before .second-pass) .kept .1 .0) at ((c .before .before .before .before .settle) .ensures))
 
 pub finish-spec : {M : Type 1} → statement M
 finish-spec =
@@ -72,10 +74,11 @@ finish-spec =
     same-length
     same-length-2
     returns
-    write-pass-requires
+    settle-requires
     same-length-3
     same-length-4
     returns-2
     same-length-5
     same-length-6
+    same-length-7
     returns-3)

@@ -16,7 +16,7 @@ add-end c =
 
 returns : tie.Need-returns
 returns c =
-    (refl, laid-beyond ((c .before .before .before .args) .write) ((c .before .before .before .args) .out .now) ((c .before .before .before .args) .piece .now) ((c .before .before .before .args) .at) ((c .if1) .taken))
+    (refl, laid-beyond ((c .before .before .before .args) .out .now) ((c .before .before .before .args) .piece .now) ((c .before .before .before .args) .at) ((c .if1) .taken))
 
 put-requires : tie.Need-put-requires
 put-requires c κs =
@@ -29,7 +29,7 @@ same-length c = search needs
 returns-2 : tie.Need-returns-2
 returns-2 c =
     let room = (c .before .before .before .before .if1) .left in
-    ((c .before .before .put) .ensures .place, laid-puts ((c .before .before .before .before .before .before .before .args) .write) (λ e. omega arith) ((c .before .before .put) .ensures))
+    ((c .before .before .put) .ensures .place, laid-puts (omega arith) ((c .before .before .put) .ensures))
 
 pub lay-spec : {M : Type 1} → statement M
 lay-spec = tie.close (tie.spec add-end returns put-requires same-length returns-2)

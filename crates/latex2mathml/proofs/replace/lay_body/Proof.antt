@@ -2,7 +2,7 @@
 use mathlib.Core.Path.{refl}
 use lib.ListN.{length}
 use Rattle.latex2mathml.proofs.TranslateLaws.{body-short, body-refused}
-use Rattle.latex2mathml.proofs.BodyLaws.{few-nodes, show-sure, show-count, show-fitting, lay-sure, lay-beyond, lay-count, lay-fitting}
+use Rattle.latex2mathml.proofs.BodyLaws.{few-nodes, show-sure, show-count, show-fitting, lay-sure, lay-beyond, lay-fitting}
 use borrow.Author.Needs.{needs}
 use native.Mathlib.Omega.{arith}
 use Rattle.latex2mathml.proofs.replace.lay_body.Statement.{statement}
@@ -30,7 +30,7 @@ cast-n c =
 put-math-requires : tie.Need-put-math-requires
 put-math-requires c κs =
     let b = rw ((c .before .before .before .before .first) .given .1) at ((c .before .before .before .before .before .before .before .before .parse) .ensures) in
-    show-sure (length ((c .before .before .before .before .before .before .before .before .before .before .before .before .before .args) .store .now)) b ((c .before .before .before .before .before .before .before .before .before .before .before .before .before .args) .display) ((c .before .before .before .before .before .before .before .before .before .before .before .before .before .args) .sure) ((c .before .before .before .before .before .before .before .before .before .before .before .before .before .args) .out .now) ((c .before .before .before .before .before .before .before .before .before .before .before .before .before .args) .at) (c .before .before .before .before .before .before .before .before .before .before .before .before .before .pre) ((c .before .before .before .before .before .before .before .before .before .before .before .before .before .args) .write) ((c .before .before .if1) .taken)
+    show-sure (length ((c .before .before .before .before .before .before .before .before .before .before .before .before .before .args) .store .now)) b ((c .before .before .before .before .before .before .before .before .before .before .before .before .before .args) .display) ((c .before .before .before .before .before .before .before .before .before .before .before .before .before .args) .sure) ((c .before .before .before .before .before .before .before .before .before .before .before .before .before .args) .out .now) ((c .before .before .before .before .before .before .before .before .before .before .before .before .before .args) .at) (c .before .before .before .before .before .before .before .before .before .before .before .before .before .pre) ((c .before .before .if1) .taken)
 
 same-length : tie.Need-same-length
 same-length c = search needs
@@ -57,44 +57,31 @@ same-length-4 c = search needs
 returns-2 : tie.Need-returns-2
 returns-2 c =
     let b = rw ((c .before .before .before .before .before .before .before .before .first) .given .1) at ((c .before .before .before .before .before .before .before .before .before .before .before .before .parse) .ensures) in
-    lay-beyond (length ((c .before .before .before .before .before .before .before .before .before .before .before .before .before .before .before .before .before .args) .store .now)) b ((c .before .before .before .before .before .before .before .before .before .before .before .before .before .before .before .before .before .args) .display) ((c .before .before .before .before .before .before .before .before .before .before .before .before .before .before .before .before .before .args) .sure) ((c .before .before .before .before .before .before .before .before .before .before .before .before .before .before .before .before .before .args) .out .now) ((c .before .before .before .before .before .before .before .before .before .before .before .before .before .before .before .before .before .args) .at) (c .before .before .before .before .before .before .before .before .before .before .before .before .before .before .before .before .before .pre) ((c .before .before .before .put-math2) .ensures) ((c .before .before .before .before .before .before .before .before .before .before .before .before .before .before .before .before .before .args) .write) ((c .if2) .taken)
+    lay-beyond (length ((c .before .before .before .before .before .before .before .before .before .before .before .before .before .before .before .before .before .args) .store .now)) b ((c .before .before .before .before .before .before .before .before .before .before .before .before .before .before .before .before .before .args) .display) ((c .before .before .before .before .before .before .before .before .before .before .before .before .before .before .before .before .before .args) .sure) ((c .before .before .before .before .before .before .before .before .before .before .before .before .before .before .before .before .before .args) .out .now) ((c .before .before .before .before .before .before .before .before .before .before .before .before .before .before .before .before .before .args) .at) (c .before .before .before .before .before .before .before .before .before .before .before .before .before .before .before .before .before .pre) ((c .before .before .before .put-math2) .ensures) ((c .if2) .taken)
 
 put-math-requires-3 : tie.Need-put-math-requires-3
 put-math-requires-3 c κs =
-    let b = rw ((c .before .before .before .before .before .before .before .before .before .before .before .first) .given .1) at ((c .before .before .before .before .before .before .before .before .before .before .before .before .before .before .before .parse) .ensures) in
-    show-fitting (length ((c .before .before .before .before .before .before .before .before .before .before .before .before .before .before .before .before .before .before .before .before .args) .store .now)) b ((c .before .before .before .before .before .before .before .before .before .before .before .before .before .before .before .before .before .before .before .before .args) .display) ((c .before .before .before .before .before .before .before .before .before .before .before .before .before .before .before .before .before .before .before .before .args) .sure) ((c .before .before .before .before .before .before .before .before .before .before .before .before .before .before .before .before .before .before .before .before .args) .out .now) ((c .before .before .before .before .before .before .before .before .before .before .before .before .before .before .before .before .before .before .before .before .args) .at) (c .before .before .before .before .before .before .before .before .before .before .before .before .before .before .before .before .before .before .before .before .pre) ((c .before .before .before .before .before .before .put-math2) .ensures) ((c .before .before .before .if2) .left)
+    let b = rw ((c .before .before .before .before .before .before .before .before .before .before .first) .given .1) at ((c .before .before .before .before .before .before .before .before .before .before .before .before .before .before .parse) .ensures) in
+    show-fitting (length ((c .before .before .before .before .before .before .before .before .before .before .before .before .before .before .before .before .before .before .before .args) .store .now)) b ((c .before .before .before .before .before .before .before .before .before .before .before .before .before .before .before .before .before .before .before .args) .display) ((c .before .before .before .before .before .before .before .before .before .before .before .before .before .before .before .before .before .before .before .args) .sure) ((c .before .before .before .before .before .before .before .before .before .before .before .before .before .before .before .before .before .before .before .args) .out .now) ((c .before .before .before .before .before .before .before .before .before .before .before .before .before .before .before .before .before .before .before .args) .at) (c .before .before .before .before .before .before .before .before .before .before .before .before .before .before .before .before .before .before .before .pre) ((c .before .before .before .before .before .put-math2) .ensures) ((c .before .before .if2) .left)
 
 same-length-5 : tie.Need-same-length-5
 same-length-5 c = search needs
 
-same-length-6 : tie.Need-same-length-6
-same-length-6 c = search needs
-
 returns-3 : tie.Need-returns-3
 returns-3 c =
-    let b = rw ((c .before .before .before .before .before .before .before .before .before .before .before .before .before .before .first) .given .1) at ((c .before .before .before .before .before .before .before .before .before .before .before .before .before .before .before .before .before .before .parse) .ensures) in
-    rw ((c .before .before .before .before .before .if3) .taken)
-    (lay-fitting (length ((c .before .before .before .before .before .before .before .before .before .before .before .before .before .before .before .before .before .before .before .before .before .before .before .args) .store .now)) b ((c .before .before .before .before .before .before .before .before .before .before .before .before .before .before .before .before .before .before .before .before .before .before .before .args) .display) ((c .before .before .before .before .before .before .before .before .before .before .before .before .before .before .before .before .before .before .before .before .before .before .before .args) .sure) ((c .before .before .before .before .before .before .before .before .before .before .before .before .before .before .before .before .before .before .before .before .before .before .before .args) .out .now) ((c .before .before .before .before .before .before .before .before .before .before .before .before .before .before .before .before .before .before .before .before .before .before .before .args) .at) (c .before .before .before .before .before .before .before .before .before .before .before .before .before .before .before .before .before .before .before .before .before .before .before .pre) ((c .before .before .before .before .before .before .before .before .before .put-math2) .ensures) ((c .before .before .before .before .before .before .if2) .left) ((c .before .before .put-math3) .ensures))
+    let b = rw ((c .before .r) .given .1) at ((c .before .before .before .before .before .parse) .ensures) in
+    (body-refused ((c .before .before .before .before .before .before .before .before .before .before .args) .s .now) ((c .before .before .before .before .before .before .before .before .before .before .args) .display) (length ((c .before .before .before .before .before .before .before .before .before .before .args) .store .now)) b, refl)
+
+same-length-6 : tie.Need-same-length-6
+same-length-6 c = search needs
 
 same-length-7 : tie.Need-same-length-7
 same-length-7 c = search needs
 
 returns-4 : tie.Need-returns-4
 returns-4 c =
-    let b = rw ((c .before .r) .given .1) at ((c .before .before .before .before .before .parse) .ensures) in
-    (body-refused ((c .before .before .before .before .before .before .before .before .before .before .args) .s .now) ((c .before .before .before .before .before .before .before .before .before .before .args) .display) (length ((c .before .before .before .before .before .before .before .before .before .before .args) .store .now)) b, λ e. refl, refl)
-
-same-length-8 : tie.Need-same-length-8
-same-length-8 c = search needs
-
-same-length-9 : tie.Need-same-length-9
-same-length-9 c = search needs
-
-returns-5 : tie.Need-returns-5
-returns-5 c =
-    let b = rw ((c .before .before .before .before .before .before .before .before .before .first) .given .1) at ((c .before .before .before .before .before .before .before .before .before .before .before .before .before .parse) .ensures) in
-    rw ((c .if3) .left)
-    (lay-count (length ((c .before .before .before .before .before .before .before .before .before .before .before .before .before .before .before .before .before .before .args) .store .now)) b ((c .before .before .before .before .before .before .before .before .before .before .before .before .before .before .before .before .before .before .args) .display) ((c .before .before .before .before .before .before .before .before .before .before .before .before .before .before .before .before .before .before .args) .sure) ((c .before .before .before .before .before .before .before .before .before .before .before .before .before .before .before .before .before .before .args) .out .now) ((c .before .before .before .before .before .before .before .before .before .before .before .before .before .before .before .before .before .before .args) .at) (c .before .before .before .before .before .before .before .before .before .before .before .before .before .before .before .before .before .before .pre) ((c .before .before .before .before .put-math2) .ensures))
+    let b = rw ((c .before .before .before .before .before .before .before .before .before .before .before .before .before .first) .given .1) at ((c .before .before .before .before .before .before .before .before .before .before .before .before .before .before .before .before .before .parse) .ensures) in
+    lay-fitting (length ((c .before .before .before .before .before .before .before .before .before .before .before .before .before .before .before .before .before .before .before .before .before .before .args) .store .now)) b ((c .before .before .before .before .before .before .before .before .before .before .before .before .before .before .before .before .before .before .before .before .before .before .args) .display) ((c .before .before .before .before .before .before .before .before .before .before .before .before .before .before .before .before .before .before .before .before .before .before .args) .sure) ((c .before .before .before .before .before .before .before .before .before .before .before .before .before .before .before .before .before .before .before .before .before .before .args) .out .now) ((c .before .before .before .before .before .before .before .before .before .before .before .before .before .before .before .before .before .before .before .before .before .before .args) .at) (c .before .before .before .before .before .before .before .before .before .before .before .before .before .before .before .before .before .before .before .before .before .before .pre) ((c .before .before .before .before .before .before .before .before .put-math2) .ensures) ((c .before .before .before .before .before .if2) .left) ((c .before .before .put-math3) .ensures)
 
 pub lay-body-spec : {M : Type 1} → statement M
 lay-body-spec =
@@ -114,10 +101,7 @@ lay-body-spec =
     returns-2
     put-math-requires-3
     same-length-5
-    same-length-6
     returns-3
+    same-length-6
     same-length-7
-    returns-4
-    same-length-8
-    same-length-9
-    returns-5)
+    returns-4)

@@ -10,13 +10,13 @@ use Rattle.latex2mathml.proofs.replace.second_pass.Statement.{statement
 use Rattle.latex2mathml.proofs.replace.second_pass.Tie as tie
 use Rattle.latex2mathml.proofs.replace.second_pass.Reads as reads
 use Rattle.latex2mathml.proofs.replace.second_pass.Lts as lts
-use Rattle.latex2mathml.proofs.dollars.next_mark.Reads as next-mark-reads
+use Rattle.latex2mathml.proofs.dollars.first_mark.Reads as first-mark-reads
 use Rattle.latex2mathml.proofs.dollars.odd_marks.Reads as odd-marks-reads
 use Rattle.latex2mathml.proofs.replace.lay.Reads as lay-reads
 use Rattle.latex2mathml.proofs.replace.substitute.Reads as substitute-reads
 
-next-mark-requires : tie.Need-next-mark-requires
-next-mark-requires c κs = omega arith
+first-mark-requires : tie.Need-first-mark-requires
+first-mark-requires c κs = search needs
 
 lay-requires : tie.Need-lay-requires
 lay-requires c κs =
@@ -29,14 +29,14 @@ same-length c = search needs
 returns : tie.Need-returns
 returns c =
     let place = (c .before .before .lay) .ensures .0 in
-    (rw (second-is (length ((c .before .before .before .before .before .before .before .before .before .args) .store .now)) ((c .before .before .before .before .before .before .before .before .before .args) .text .now) (plain-even 0 DisplayStyle.Inline false ((c .before .before .before .before .before .before .before .before .before .args) .text .now) (sym ((c .before .before .before .before .if1) .taken) ∙ (c .before .before .before .before .before .next-mark) .ensures .0))) (plain-laid (length ((c .before .before .before .before .before .before .before .before .before .args) .store .now)) DisplayStyle.Inline false ((c .before .before .before .before .before .before .before .before .before .args) .text .now) (sym ((c .before .before .before .before .if1) .taken) ∙ (c .before .before .before .before .before .next-mark) .ensures .0) ((c .before .before .before .before .before .before .before .before .before .args) .write) ((c .before .before .before .before .before .before .before .before .before .args) .out .now) ((c .before .before .lay) .last .1 .0) ((c .before .before .before .before .before .before .before .before .before .args) .at) ((c .before .before .lay) .result) ((c .before .before .lay) .ensures .0) ((c .before .before .lay) .ensures .1)), omega arith)
+    (rw (second-is (length ((c .before .before .before .before .before .before .before .before .before .args) .store .now)) ((c .before .before .before .before .before .before .before .before .before .args) .text .now) (plain-even 0 DisplayStyle.Inline false ((c .before .before .before .before .before .before .before .before .before .args) .text .now) (sym ((c .before .before .before .before .if1) .taken) ∙ (c .before .before .before .before .before .first-mark) .ensures))) (plain-laid (length ((c .before .before .before .before .before .before .before .before .before .args) .store .now)) DisplayStyle.Inline false ((c .before .before .before .before .before .before .before .before .before .args) .text .now) (sym ((c .before .before .before .before .if1) .taken) ∙ (c .before .before .before .before .before .first-mark) .ensures) ((c .before .before .before .before .before .before .before .before .before .args) .out .now) ((c .before .before .lay) .last .1 .0) ((c .before .before .before .before .before .before .before .before .before .args) .at) ((c .before .before .lay) .result) ((c .before .before .lay) .ensures .0) ((c .before .before .lay) .ensures .1)), omega arith)
 
 odd-marks-requires : tie.Need-odd-marks-requires
 odd-marks-requires c κs = search needs
 
 returns-2 : tie.Need-returns-2
 returns-2 c =
-    ((second-odd (length ((c .before .before .before .before .before .before .before .args) .store .now)) ((c .before .before .before .before .before .before .before .args) .text .now) (sym ((c .before .odd-marks) .ensures) ∙ (c .if2) .taken), λ e. refl, refl), tt)
+    ((second-odd (length ((c .before .before .before .before .before .before .before .args) .store .now)) ((c .before .before .before .before .before .before .before .args) .text .now) (sym ((c .before .odd-marks) .ensures) ∙ (c .if2) .taken), refl), tt)
 
 substitute-requires : tie.Need-substitute-requires
 substitute-requires c κs =
@@ -56,7 +56,7 @@ pub second-pass-spec : {M : Type 1} → statement M
 second-pass-spec =
     tie.close
     (tie.spec
-    next-mark-requires
+    first-mark-requires
     lay-requires
     same-length
     returns

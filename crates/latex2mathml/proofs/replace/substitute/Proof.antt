@@ -16,19 +16,18 @@ use Rattle.latex2mathml.proofs.replace.lay_body.Reads as lay-body-reads
 use Rattle.latex2mathml.proofs.replace.width.Reads as width-reads
 
 abbrev Inv-loop : tie.InvT-loop
-Inv-loop s double display store₀ out₀ start write sure width from₀ at₀ store out from at =
-    Passing (length store₀) display double s width write out₀ out start at from × (length store ≡ length store₀)
+Inv-loop s double display store₀ out₀ start sure width from₀ at₀ store out from at =
+    Passing (length store₀) display double s width out₀ out start at from × (length store ≡ length store₀)
 
 abbrev μ-loop : tie.MeasureT-loop
-μ-loop s double display store₀ out₀ start write sure width from₀ at₀ store out from at =
-    length s - from
+μ-loop s double display store₀ out₀ start sure width from₀ at₀ store out from at = length s - from
 
 width-requires : tie.Need-width-requires Inv-loop μ-loop
 width-requires c κs = search needs
 
 loop-holds : tie.Need-loop-holds Inv-loop μ-loop
 loop-holds c =
-    (passing-none (length ((c .before .before .before .before .args) .store .now)) ((c .before .before .before .before .args) .display) ((c .before .before .before .before .args) .double) ((c .before .before .before .before .args) .s .now) ((c .width) .result) ((c .before .before .before .before .args) .write) ((c .before .before .before .before .args) .out .now) ((c .before .before .before .before .args) .start) ((c .width) .ensures) ((c .before .before .before .before .pre) .even), refl)
+    (passing-none (length ((c .before .before .before .before .args) .store .now)) ((c .before .before .before .before .args) .display) ((c .before .before .before .before .args) .double) ((c .before .before .before .before .args) .s .now) ((c .width) .result) ((c .before .before .before .before .args) .out .now) ((c .before .before .before .before .args) .start) ((c .width) .ensures) ((c .before .before .before .before .pre) .even), refl)
 
 next-mark-requires : tie.Need-next-mark-requires Inv-loop μ-loop
 next-mark-requires c κs = (c .loop) .inv .0 .inside
@@ -128,7 +127,7 @@ returns-2 c =
     let d = (c .before .before .before .before .before .before .before .before .before .before .before .before .before .before .before .before .before .if1) .left in
     let n = (c .before .before .before .before .before .before .before .before .before .before .before .before .before .before .before .before .before .before .next-mark) .ensures in
     let p = pair-next ((c .before .before .before .before .before .before .before .before .before .before .before .before .before .before .before .before .before .before .before .before .before .before .before .before .args) .double) ((c .before .before .before .before .before .before .before .before .before .before .before .before .before .before .before .before .before .before .before .before .before .before .before .before .args) .s .now) ((c .before .before .before .before .before .before .before .before .before .before .before .before .before .before .before .before .before .before .before .before .before .before .before .before .pre) .apart) ((c .before .before .before .before .before .before .before .before .before .before .before .before .before .before .before .before .before .before .before .before .width) .result) ((c .before .before .before .before .before .before .before .before .before .before .before .before .before .before .before .before .before .before .before .before .width) .ensures) ((c .before .before .before .before .before .before .before .before .before .before .before .before .before .before .before .before .before .before .before .loop) .from) ((c .before .before .before .before .before .before .before .before .before .before .before .before .before .before .before .before .before .before .next-mark) .result) ((c .before .before .before .before .before .before .before .before .before .before .before .before .before .before .before .before .next-mark2) .result) ((c .before .before .before .before .before .before .before .before .before .before .before .before .before .before .before .before .before .before .before .loop) .inv .0 .inside) ((c .before .before .before .before .before .before .before .before .before .before .before .before .before .before .before .before .before .before .before .loop) .inv .0 .even) ((c .before .before .before .before .before .before .before .before .before .before .before .before .before .before .before .before .before .before .next-mark) .ensures .0) (omega arith) ((c .before .before .before .before .before .before .before .before .before .before .before .before .before .before .before .before .next-mark2) .ensures .0) in
-    passing-refused (length ((c .before .before .before .before .before .before .before .before .before .before .before .before .before .before .before .before .before .before .before .before .before .before .before .before .args) .store .now)) ((c .before .before .before .before .before .before .before .before .before .before .before .before .before .before .before .before .before .before .before .before .before .before .before .before .args) .display) ((c .before .before .before .before .before .before .before .before .before .before .before .before .before .before .before .before .before .before .before .before .before .before .before .before .args) .double) ((c .before .before .before .before .before .before .before .before .before .before .before .before .before .before .before .before .before .before .before .before .before .before .before .before .args) .s .now) ((c .before .before .before .before .before .before .before .before .before .before .before .before .before .before .before .before .before .before .before .before .width) .result) ((c .before .before .before .before .before .before .before .before .before .before .before .before .before .before .before .before .before .before .before .before .before .before .before .before .pre) .small) ((c .before .before .before .before .before .before .before .before .before .before .before .before .before .before .before .before .before .before .before .loop) .inv .0) ((c .before .before .before .before .before .before .before .before .before .before .before .before .before .before .before .before .before .before .next-mark) .result) ((c .before .before .before .before .before .before .before .before .before .before .before .before .before .before .before .before .next-mark2) .result) p ((c .before .before .before .before .before .before .before .before .before .before .before .before .before .lay2) .last .1 .0) ((c .before .before .before .before .before .before .before .before .before .before .before .before .before .lay2) .result) ((c .before .before .before .before .before .before .before .before .before .before .before .before .before .lay2) .ensures .0) ((c .before .before .before .before .before .before .before .before .before .before .before .before .before .lay2) .ensures .1) ((c .before .before .before .before .before .before .before .before .before .before .before .before .before .lay2) .kept .1 .0) ((c .before .r) .given .0 .0) (rw ((c .before .before .before .before .before .before .before .before .before .before .before .before .before .before .before .before .before .before .before .loop) .inv .1, (c .before .r) .given .1) at ((c .before .before .before .before .before .before .before .lay-body) .ensures))
+    passing-refused (length ((c .before .before .before .before .before .before .before .before .before .before .before .before .before .before .before .before .before .before .before .before .before .before .before .before .args) .store .now)) ((c .before .before .before .before .before .before .before .before .before .before .before .before .before .before .before .before .before .before .before .before .before .before .before .before .args) .display) ((c .before .before .before .before .before .before .before .before .before .before .before .before .before .before .before .before .before .before .before .before .before .before .before .before .args) .double) ((c .before .before .before .before .before .before .before .before .before .before .before .before .before .before .before .before .before .before .before .before .before .before .before .before .args) .s .now) ((c .before .before .before .before .before .before .before .before .before .before .before .before .before .before .before .before .before .before .before .before .width) .result) ((c .before .before .before .before .before .before .before .before .before .before .before .before .before .before .before .before .before .before .before .before .before .before .before .before .pre) .small) ((c .before .before .before .before .before .before .before .before .before .before .before .before .before .before .before .before .before .before .before .loop) .inv .0) ((c .before .before .before .before .before .before .before .before .before .before .before .before .before .before .before .before .before .before .next-mark) .result) ((c .before .before .before .before .before .before .before .before .before .before .before .before .before .before .before .before .next-mark2) .result) p ((c .before .before .before .before .before .before .before .before .before .before .before .before .before .lay2) .last .1 .0) ((c .before .before .before .before .before .before .before .before .before .before .before .before .before .lay2) .result) ((c .before .before .before .before .before .before .before .before .before .before .before .before .before .lay2) .ensures .0) ((c .before .before .before .before .before .before .before .before .before .before .before .before .before .lay2) .ensures .1) ((c .before .before .before .before .before .before .before .before .before .before .before .before .before .lay2) .kept .1 .0) ((c .before .before .before .before .before .before .before .lay-body) .last .1 .1 .1 .0) ((c .before .r) .given .0 .0) (rw ((c .before .before .before .before .before .before .before .before .before .before .before .before .before .before .before .before .before .before .before .loop) .inv .1, (c .before .r) .given .1) at ((c .before .before .before .before .before .before .before .lay-body) .ensures))
 
 enum-known-end : tie.Need-enum-known-end Inv-loop μ-loop
 enum-known-end c = search needs
