@@ -1,3 +1,4 @@
+pub mod OutcomeLaws
 pub mod MathLaws
 pub mod TranslateLaws
 pub mod LayLaws

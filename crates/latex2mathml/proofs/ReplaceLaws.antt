@@ -1,7 +1,7 @@
 -- The two passes of a replacement, test by test.
 -- Assumes nothing.
 use mathlib.Core.Path.{_≡_, refl, sym, _∙_, ap}
-use mathlib.Core.Bool.{Bool, true, false, not, false≢true}
+use mathlib.Core.Bool.{Bool, true, false, not}
 use mathlib.Core.List.{List, [], _++_}
 use Prim.Native.Nat.{ℕ, _+_, _*_, _^_, _≤_, _<_}
 use native.Mathlib.Omega.{arith}
@@ -9,10 +9,10 @@ use native.Mathlib.Nat.{mul-le-mul-right}
 use lib.Dec.{ltb}
 use lib.ListN.{length, take, drop, length-append}
 use lib.Seq.{take-at, length-take-le}
-use borrow.Author.Tests.{ltb-true, ltb-false, lt-ltb, le-ltb}
+use borrow.Author.Tests.{ltb-false, lt-ltb, le-ltb, not-false}
 use Rattle.text.specs.Utf8.{wellFormed}
 use Rattle.text.specs.Put.{Room, Puts}
-use Rattle.text.proofs.Cases.{never, by-test}
+use Rattle.text.proofs.Cases.{never}
 use Rattle.text.proofs.PutLaws.{puts-all}
 use Rattle.attribute.specs.declared.DisplayStyle.{DisplayStyle}
 use Rattle.error.specs.declared.Refusal.{Refusal}
@@ -21,6 +21,7 @@ use Rattle.latex2mathml.specs.Outcome.{Outcome, accepted, refused, _>>=_
 use Rattle.latex2mathml.specs.Replace.{dollar, twoDollars, threeDollars, places, odd, substitute, firstPass, secondPass, replacement, replaceOutcome, replace}
 use Rattle.latex2mathml.specs.Written.{answerOf, over, Gives, Replaces}
 use Rattle.latex2mathml.specs.Laid.{Laid, LaidThere, Lays, Fits, WrittenThere, Begins, inRoom, passed, growth, Passable, AtMost}
+use Rattle.latex2mathml.proofs.OutcomeLaws.{steps, not-refused}
 use Rattle.latex2mathml.proofs.TranslateLaws.{gives-nothing, gives-markup}
 use Rattle.latex2mathml.specs.Dollars.{mark, nextPlace}
 use Rattle.latex2mathml.proofs.PlaceLaws.{places-none}
@@ -164,36 +165,21 @@ module _ (d : List ℕ) (store work : ℕ) where
     pub inside : length text ≤ work
 
   module _ (text : List ℕ) (is : firstPass d store work ≡ accepted text) where
-    first-passed : (h : Checked d) (want : Outcome (List ℕ)) → passed store DisplayStyle.Block true d ≡ want → First text
-    unfolding refuse _>>=_
-    first-passed h (refused r) e = let z = rw e at (sym (first-is h) ∙ is) in never cc
-    first-passed h (accepted l) e =
-        let z = rw e at (sym (first-is h) ∙ is) in
-        by-test (ltb work (length l))
-        (λ t. let y = rw t at z in never cc)
-        (λ t.
-        let y = rw t at z in
-        let same : l ≡ text = cc in
-        let n = ltb-false work (length l) t in
-        let m = ap length same in
-        record { checked = h; is = e ∙ ap (λ x. accepted x) same; inside = omega arith })
-
     pub first-accepted : First text
+    unfolding firstPass documentLimit
     first-accepted =
-        by-test (ltb 32768 (length d))
-        (λ t. let z = first-long d store work (ltb-true 32768 (length d) t) in never cc)
-        (λ t.
-        let short = ltb-false 32768 (length d) t in
-        by-test (wellFormed d)
-        (λ well.
-        by-test (odd (places twoDollars 0 d))
-        (λ e. let z = first-odd d store work short well e in never cc)
-        (λ even.
-        by-test (ltb 0 (length (places threeDollars 0 d)))
-        (λ e. let z = first-three d store work short well even e in never cc)
-        (λ apart.
-        first-passed (record { short = short; well = well; even = even; apart = apart }) (passed store DisplayStyle.Block true d) refl)))
-        (λ e. let z = first-ill-formed d store work short e in never cc))
+        let short = not-refused (ltb 32768 (length d)) Refusal.TooLong _ text is in
+        let well = not-refused (not (wellFormed d)) Refusal.IllFormed _ text (short .1) in
+        let even = not-refused (odd (places twoDollars 0 d)) Refusal.InvalidNumberOfDollarSigns _ text (well .1) in
+        let apart = not-refused (ltb 0 (length (places threeDollars 0 d))) Refusal.ThreeDollarSigns _ text (even .1) in
+        let read = steps (passed store DisplayStyle.Block true d) _ text (apart .1) in
+        let fits = not-refused (ltb work (length (read .value))) Refusal.WorkTooSmall _ text (read .then) in
+        let same : read .value ≡ text = let e = fits .1 in cc in
+        record {
+          checked = record { short = ltb-false 32768 (length d) (short .0); well = not-false (wellFormed d) (well .0); even = even .0; apart = apart .0 };
+          is = read .is ∙ ap (λ x. accepted x) same;
+          inside = rw same at (ltb-false work (length (read .value)) (fits .0));
+        }
 
     pub first-passable : (w : List ℕ) → work ≡ length w → Passable store DisplayStyle.Block true d true w 0
     first-passable w lent =
@@ -228,11 +214,12 @@ module _ (store : ℕ) (text : List ℕ) where
 
   -- an accepted pass two can be written
   module _ (m : List ℕ) (is : secondPass store text ≡ accepted m) where
-    second-even : odd (places dollar 0 text) ≡ false
-    second-even = by-test (odd (places dollar 0 text)) (λ e. let z = second-odd e in never cc) (λ e. e)
+    second-steps : (odd (places dollar 0 text) ≡ false) × (passed store DisplayStyle.Inline false text ≡ accepted m)
+    unfolding secondPass
+    second-steps = not-refused (odd (places dollar 0 text)) Refusal.InvalidNumberOfDollarSigns _ m is
 
     pub second-passed : passed store DisplayStyle.Inline false text ≡ accepted m
-    second-passed = sym (second-is second-even) ∙ is
+    second-passed = second-steps .1
 
     pub second-written : {o o′ : List ℕ} {at r : ℕ} → WrittenThere (passed store DisplayStyle.Inline false text) o o′ at r → Puts true o o′ at m r
     second-written q =
@@ -242,7 +229,7 @@ module _ (store : ℕ) (text : List ℕ) where
     pub second-passable : (o : List ℕ) (at : ℕ) → at + length text * growth < 2 ^ 64 → at + length m ≤ length o → Passable store DisplayStyle.Inline false text true o at
     second-passable o at small room = record {
       small = small;
-      even = second-even;
+      even = second-steps .0;
       apart = λ f. never cc;
       fits = λ f. record { text = m; is = second-passed; inside = room };
     }
@@ -386,11 +373,10 @@ pub record Both (d : List ℕ) (store work : ℕ) (m : List ℕ) : Type 0 where
   pub second : secondPass store text ≡ accepted m
 
 pub both-accepted : (d : List ℕ) (store work : ℕ) (m : List ℕ) → replacement d store work ≡ accepted m → Both d store work m
-both-accepted d store work m is = by-first (firstPass d store work) refl
-  where
-    by-first : (want : Outcome (List ℕ)) → firstPass d store work ≡ want → Both d store work m
-    by-first (accepted text) e = record { text = text; first = e; second = sym (replacement-is d store work text e) ∙ is }
-    by-first (refused r) e = let z = replacement-refused d store work r e in never cc
+unfolding replacement
+both-accepted d store work m is =
+    let s = steps (firstPass d store work) _ m is in
+    record { text = s .value; first = s .is; second = s .then }
 
 -- the replacement written at a place
 module _ (d : List ℕ) (store : ℕ) (w o : List ℕ) (at : ℕ) (f : Fits (replacement d store (length w)) o at) where

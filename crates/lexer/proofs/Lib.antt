@@ -6,3 +6,4 @@ pub mod ReaderLaws
 pub mod PlainLaws
 pub mod RunLaws
 pub mod TokenLaws
+pub mod AlphabeticLaws

@@ -148,7 +148,9 @@ module _ (s : List ℕ) (body : plain s ≡ true) where
 
   undefined-plain : (u : Undefined) → plain (undefinedMarkup s u) ≡ true
   unfolding undefinedMarkup parseError
-  undefined-plain u = simp (joined, escape-plain (debug s u) (debug-plain s u body))
+  undefined-plain u =
+      let once = debug-plain s u body in
+      simp (joined, escape-plain (debug s u) once, once)
 
   leaf-plain : (l : Leaf) → leafPlain l ≡ true → plain (printLeaf s l) ≡ true
   unfolding printLeaf widthText sizedMarkup parseError

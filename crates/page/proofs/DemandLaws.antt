@@ -1,7 +1,7 @@
 -- Demand 3, from the page operation's promise.
 -- Assumes nothing.
 use mathlib.Core.Path.{_≡_, refl, sym, _∙_, ap}
-use mathlib.Core.Bool.{true, false}
+use mathlib.Core.Bool.{true}
 use mathlib.Core.List.{List, [], _∷_, _++_, append-nil, append-assoc, map, flatten}
 use Prim.Native.Nat.{ℕ, suc, _+_, _≤_}
 use native.Mathlib.Omega.{arith}
@@ -9,19 +9,20 @@ use lib.Dec.{ltb}
 use lib.ListN.{length, take, drop}
 use lib.Seq.{take-at}
 use borrow.Author.Tests.{le-ltb}
-use Rattle.text.proofs.Cases.{never, by-test}
+use Rattle.text.proofs.Cases.{never}
 use Rattle.error.specs.declared.Refusal.{Refusal}
 use Rattle.latex2mathml.specs.Outcome.{Outcome, accepted, refused, _>>=_, refuse, documentLimit}
 use Rattle.latex2mathml.specs.Written.{over}
 use Rattle.latex2mathml.specs.Translate.{translate}
 use Rattle.latex2mathml.specs.Replace.{replacement, replaceOutcome, replace}
+use Rattle.latex2mathml.proofs.OutcomeLaws.{by-outcome, not-refused}
 use Rattle.page.specs.declared.PageAnswer.{PageAnswer}
 use Rattle.page.specs.Pieces.{Pieces, last, piece, pieces}
 use Rattle.page.specs.Page.{shown, left, shownAll, paragraphs, leftAll, Paged, page, outputOf}
 use Rattle.page.specs.Run.{answerOf}
 use Rattle.page.specs.Words.{Run, lengthOf, output, Piece, paragraph, break, listed, inOrder, paragraphCount, ReplacedBy, RefusedThere, Out, copied, replaced, typed, written, Comes, typedCount, tidy, Part, prose, formula, parts, displayOf, Shows, Differ, DifferInParagraph}
 use Rattle.page.specs.Demand.{Each, joined, Made, Shared, OneRun, Beside, NotRefused, AllButOne, TwoRuns, Demand3}
-use Rattle.page.proofs.ParagraphLaws.{by-outcome, shown-replaced, left-replaced, shown-typed, left-typed}
+use Rattle.page.proofs.ParagraphLaws.{shown-replaced, left-replaced, shown-typed, left-typed}
 use Rattle.page.proofs.TidyLaws.{tidied}
 use Rattle.page.proofs.SharedLaws.{OneOutcome, shared}
 
@@ -104,14 +105,11 @@ record Accepts (document : List ℕ) (store work : ℕ) (p : Paged) : Type 0 whe
   pub kept : p .left ≡ leftAll store work (pieces document)
 
 accepts : (document : List ℕ) (store work room : ℕ) (p : Paged) → page document store work room ≡ accepted p → Accepts document store work p
-unfolding page _>>=_ refuse
+unfolding page
 accepts document store work room p e =
-    by-test (ltb documentLimit (length document))
-    (λ t. let f = rw (page, t) at e in never cc)
-    (λ t.
-    by-test (ltb room (length (shownAll store work (pieces document))))
-    (λ u. let f = rw (page, t, u) at e in never cc)
-    (λ u. let f = rw (page, t, u) at e in record { bytes = cc; counted = cc; kept = cc }))
+    let short = not-refused (ltb documentLimit (length document)) Refusal.TooLong _ p e in
+    let same = not-refused (ltb room (length (shownAll store work (pieces document)))) Refusal.OutputTooSmall _ p (short .1) .1 in
+    record { bytes = cc; counted = cc; kept = cc }
 
 -- what a run that is not refused returns, and its output
 record Returns (a : Run) (count left : ℕ) : Type 0 where

@@ -7,7 +7,6 @@ pub mod WriteLaws
 pub mod PageLaws
 pub mod DollarRunLaws
 pub mod MarkLaws
-pub mod OutcomeLaws
 pub mod PassLaws
 pub mod SpanLaws
 pub mod TidyLaws

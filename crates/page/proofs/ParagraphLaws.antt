@@ -14,13 +14,9 @@ use Rattle.latex2mathml.specs.declared.Answer.{Answer}
 use Rattle.latex2mathml.specs.Outcome.{Outcome, accepted, refused}
 use Rattle.latex2mathml.specs.Replace.{replacement}
 use Rattle.latex2mathml.specs.Laid.{Laid, Lays, Fits, WrittenThere, growth, AtMost}
+use Rattle.latex2mathml.proofs.OutcomeLaws.{by-outcome}
 use Rattle.page.specs.Page.{shown, left}
 use Rattle.page.specs.Marks.{Drafted}
-
--- an outcome, as an equation
-pub by-outcome : {A P : Type 0} (w : Outcome A) → ((text : A) → w ≡ accepted text → P) → ((r : Refusal) → w ≡ refused r → P) → P
-by-outcome (accepted text) f g = f text refl
-by-outcome (refused r) f g = g r refl
 
 -- what is laid stands behind what lies before its place
 pub laid-next : (d d′ bs : List ℕ) (at n : ℕ) → n ≡ at + length bs → n ≤ length d → Laid d d′ at bs → take n d′ ≡ take at d ++ bs

@@ -2,7 +2,6 @@ pub mod LeastLaws
 pub mod MoveLaws
 pub mod TreeLaws
 pub mod KeepLaws
-pub mod AlphabeticLaws
 pub mod ArmLaws
 pub mod BodyLaws
 pub mod PlainLaws

@@ -9,7 +9,7 @@ use Rattle.lexer.specs.declared.Lexeme.{Lexeme}
 use Rattle.lexer.specs.Lex.{lexeme}
 use Rattle.lexer.proofs.LettersLaws.{no-letter}
 use Rattle.parser.specs.State.{PastLetters}
-use Rattle.parser.proofs.AlphabeticLaws.{letter-at}
+use Rattle.lexer.proofs.AlphabeticLaws.{letter-at}
 use Rattle.parser.proofs.TextLaws.{past-here, letter-lies, past-on}
 use borrow.Author.Needs.{needs}
 use native.Mathlib.Omega.{arith}

@@ -8,7 +8,7 @@ use Rattle.token.specs.declared.Token.{Token}
 use Rattle.lexer.specs.declared.Lexeme.{Lexeme}
 use Rattle.lexer.specs.Lex.{lexeme}
 use Rattle.lexer.proofs.LettersLaws.{no-letter}
-use Rattle.parser.proofs.AlphabeticLaws.{letter-in}
+use Rattle.lexer.proofs.AlphabeticLaws.{letter-in}
 use Rattle.parser.proofs.EnvironmentLaws.{Comparing, comparing-none, comparing-end, comparing-past, comparing-other, comparing-more, more-inside}
 use borrow.Author.Needs.{needs}
 use native.Mathlib.Omega.{arith}

@@ -1,10 +1,15 @@
--- What is accepted was accepted step by step.
+-- An outcome is accepted or refused, and what is accepted was accepted step by step.
 -- Assumes nothing.
 use mathlib.Core.Path.{_≡_, refl}
 use mathlib.Core.Bool.{Bool, true, false}
 use Rattle.text.proofs.Cases.{never}
 use Rattle.error.specs.declared.Refusal.{Refusal}
 use Rattle.latex2mathml.specs.Outcome.{Outcome, accepted, refused, _>>=_, refuse}
+
+-- an outcome, as an equation
+pub by-outcome : {A P : Type 0} (w : Outcome A) → ((a : A) → w ≡ accepted a → P) → ((r : Refusal) → w ≡ refused r → P) → P
+by-outcome (accepted a) f g = f a refl
+by-outcome (refused r) f g = g r refl
 
 -- a first step's result, with which the second is accepted
 pub record Steps {A B : Type 0} (first : Outcome A) (second : A → Outcome B) (b : B) : Type 0 where
