@@ -1,6 +1,7 @@
 -- Worked examples, which antt computes.
 -- Assumes nothing.
 use mathlib.Core.Path.{_≡_, refl}
+use mathlib.Core.Bool.{true, false}
 use mathlib.Core.List.{List, [], _∷_, map}
 use Prim.Native.Nat.{ℕ}
 use Prim.Native.String.{String}
@@ -13,7 +14,7 @@ use Rattle.page.specs.Breaks.{lineFeed, twoLineFeeds, noLineFeed}
 use Rattle.page.specs.Page.{shown, left, shownAll, paragraphs, leftAll, Paged, page, outputOf, paragraphsOf, leftOf}
 use Rattle.page.specs.Run.{answerOf}
 use Rattle.page.specs.Marks.{marks}
-use Rattle.page.specs.Words.{lengthOf, output, listed, inOrder, paragraphCount, written, typedCount, withByte, withDollar, dollarRuns, lengths, paired, tidy, partsOf, parts, displayOf}
+use Rattle.page.specs.Words.{Part, prose, formula, lengthOf, output, listed, inOrder, paragraphCount, written, typedCount, withByte, withDollar, dollarRuns, lengths, paired, tidy, partsOf, parts, displayOf}
 
 -- whoever unfolds this unfolds all definitions of this crate and of those below it, as an example has to
 unfoldable pub page-opens : Unit {0}
@@ -30,6 +31,18 @@ cuts : map (λ s. pieces (bytes s)) ("" ∷ "\n" ∷ "\n\n" ∷ "a\nb\n" ∷ "a\
     ∷ []
 unfolding page-opens
 cuts = refl
+
+-- runs of one or two dollars, taken in pairs of one length; three dollars, a run without a partner and one with a partner of another length
+-- are not tidy
+tidied : map (λ s. tidy (bytes s)) ("" ∷ "a" ∷ "$a$" ∷ "$$a$$ $b$" ∷ "$$$a$$$" ∷ "$a" ∷ "$a$$" ∷ "$a$$b$" ∷ [])
+    ≡ true ∷ true ∷ true ∷ true ∷ false ∷ false ∷ false ∷ false ∷ []
+unfolding page-opens
+tidied = refl
+
+-- the prose and the formulas of a tidy paragraph
+in-parts : parts (bytes "a $b$, $$c$$") ≡ prose (bytes "a ") ∷ formula 1 (bytes "b") ∷ prose (bytes ", ") ∷ formula 2 (bytes "c") ∷ prose [] ∷ []
+unfolding page-opens
+in-parts = refl
 
 -- document 01's page, which takes 89 bytes of output
 slip : map (λ room. page (bytes "a$$$\n\n$x$") 61440 65536 room) (89 ∷ 88 ∷ [])
