@@ -1,10 +1,13 @@
 //! The crate and the port in turn on the same inputs, the port's buffers lent once; best of several rounds.
+//! Built with `--cfg before`, the port before a change takes its turn too.
 //!
 //! Arguments: the crate's sources, the number of rounds (60), and a part of the names of the rows to run (all).
 
+mod archive;
 #[path = "../src/ffi.rs"]
 mod ffi;
 
+use archive::Archive;
 use latex2mathml::DisplayStyle;
 use std::hint::black_box;
 use std::process::ExitCode;
@@ -32,20 +35,28 @@ enum Operation {
 struct Row {
     name: &'static str,
     operation: Operation,
-    input: String,
+    /// One call of the row takes them one by one.
+    inputs: Vec<String>,
     /// The most that the port's time may be of the crate's; none where the growth is looked at.
     bar: Option<f64>,
 }
 
-struct Port {
+impl Row {
+    fn bytes(&self) -> usize {
+        self.inputs.iter().map(String::len).sum()
+    }
+}
+
+/// The buffers of the port, and of the port before the change: the same, so that their place in memory favours neither.
+struct Lent {
     store: Vec<u8>,
     work: Vec<u8>,
     output: Vec<u8>,
 }
 
-impl Port {
-    fn new() -> Port {
-        Port {
+impl Lent {
+    fn new() -> Lent {
+        Lent {
             store: vec![0; STORE],
             work: vec![0; TEXT],
             output: vec![0; TEXT],
@@ -53,20 +64,20 @@ impl Port {
     }
 
     /// The number, and the length of the output.
-    fn call(&mut self, operation: Operation, input: &[u8]) -> (u32, usize) {
+    fn call(&mut self, archive: &Archive, operation: Operation, input: &[u8]) -> (u32, usize) {
         let mut length = 0;
         let number = match operation {
-            Operation::Body => self.body(input, &mut length),
-            Operation::Replacement => self.replacement(input, &mut length),
-            Operation::Page => self.page(input, &mut length),
+            Operation::Body => self.body(archive, input, &mut length),
+            Operation::Replacement => self.replacement(archive, input, &mut length),
+            Operation::Page => self.page(archive, input, &mut length),
         };
         (number, length as usize)
     }
 
-    fn body(&mut self, input: &[u8], length: &mut u64) -> u32 {
+    fn body(&mut self, archive: &Archive, input: &[u8], length: &mut u64) -> u32 {
         // SAFETY: each pointer is to a buffer of the length passed with it, and none overlap.
         unsafe {
-            ffi::latex_to_mathml(
+            (archive.body)(
                 input.as_ptr(),
                 input.len(),
                 true,
@@ -79,10 +90,10 @@ impl Port {
         }
     }
 
-    fn replacement(&mut self, input: &[u8], length: &mut u64) -> u32 {
+    fn replacement(&mut self, archive: &Archive, input: &[u8], length: &mut u64) -> u32 {
         // SAFETY: as in `body`.
         unsafe {
-            ffi::latex_replace(
+            (archive.replacement)(
                 input.as_ptr(),
                 input.len(),
                 self.store.as_mut_ptr(),
@@ -96,11 +107,11 @@ impl Port {
         }
     }
 
-    fn page(&mut self, input: &[u8], length: &mut u64) -> u32 {
+    fn page(&mut self, archive: &Archive, input: &[u8], length: &mut u64) -> u32 {
         let (mut paragraphs, mut left) = (0, 0);
         // SAFETY: as in `body`.
         unsafe {
-            ffi::latex_page(
+            (archive.page)(
                 input.as_ptr(),
                 input.len(),
                 self.store.as_mut_ptr(),
@@ -158,6 +169,47 @@ fn crate_call(operation: Operation, input: &str) -> Option<String> {
     }
 }
 
+// ---- the timing
+
+enum Side {
+    Crate,
+    /// As one archive has it.
+    Port(Archive),
+}
+
+impl Side {
+    fn run(&self, row: &Row, lent: &mut Lent) {
+        for input in &row.inputs {
+            let input = black_box(input);
+            match self {
+                Side::Crate => drop(black_box(crate_call(row.operation, input))),
+                Side::Port(archive) => {
+                    black_box(lent.call(archive, row.operation, input.as_bytes()));
+                }
+            }
+        }
+    }
+
+    /// The text, where the input is accepted.
+    fn text(&self, operation: Operation, input: &str, lent: &mut Lent) -> Option<Vec<u8>> {
+        match self {
+            Side::Crate => crate_call(operation, input).map(String::into_bytes),
+            Side::Port(archive) => {
+                let (number, length) = lent.call(archive, operation, input.as_bytes());
+                (number == 0).then(|| lent.output[..length].to_vec())
+            }
+        }
+    }
+}
+
+/// The crate, the port, and the port before the change where there is one: the order of the times of a row.
+fn sides() -> Vec<Side> {
+    let mut sides = vec![Side::Crate, Side::Port(archive::PORT)];
+    sides.extend(archive::BEFORE.map(Side::Port));
+    sides
+}
+
+/// The time of one call in nanoseconds.
 fn time(calls: u32, mut call: impl FnMut()) -> f64 {
     let begin = Instant::now();
     for _ in 0..calls {
@@ -178,30 +230,26 @@ fn calls_for(mut call: impl FnMut()) -> u32 {
     }
 }
 
-/// The best times of the crate and of the port in nanoseconds for one call.
-fn measure(row: &Row, port: &mut Port, rounds: u32) -> (f64, f64) {
-    let mut on_crate = || {
-        black_box(crate_call(row.operation, black_box(&row.input)));
-    };
-    let mut on_port = || {
-        black_box(port.call(row.operation, black_box(row.input.as_bytes())));
-    };
-    let (crate_calls, port_calls) = (calls_for(&mut on_crate), calls_for(&mut on_port));
-    let (mut crate_best, mut port_best) = (f64::MAX, f64::MAX);
+/// Each side's best time of one call in nanoseconds, the sides in turn in every round.
+fn measure(row: &Row, sides: &[Side], lent: &mut Lent, rounds: u32) -> Vec<f64> {
+    let calls_of = |side: &Side| calls_for(|| side.run(row, lent));
+    let calls: Vec<u32> = sides.iter().map(calls_of).collect();
+    let mut best = vec![f64::MAX; sides.len()];
     for _ in 0..rounds {
-        crate_best = crate_best.min(time(crate_calls, &mut on_crate));
-        port_best = port_best.min(time(port_calls, &mut on_port));
+        for (at, side) in sides.iter().enumerate() {
+            best[at] = best[at].min(time(calls[at], || side.run(row, lent)));
+        }
     }
-    (crate_best, port_best)
+    best
 }
 
-/// A timing counts only where both sides give the same text.
-fn same(row: &Row, port: &mut Port) -> bool {
-    let (number, length) = port.call(row.operation, row.input.as_bytes());
-    match crate_call(row.operation, &row.input) {
-        Some(text) => number == 0 && text.as_bytes() == &port.output[..length],
-        None => false,
-    }
+/// A timing counts only where all sides accept each input and give the same text.
+fn same(row: &Row, sides: &[Side], lent: &mut Lent) -> bool {
+    row.inputs.iter().all(|input| {
+        let mut text = |side: &Side| side.text(row.operation, input, lent);
+        let first = text(&sides[0]);
+        first.is_some() && sides[1..].iter().all(|side| text(side) == first)
+    })
 }
 
 // ---- the inputs
@@ -236,11 +284,34 @@ fn replaced(copies: usize) -> String {
     (EXAMPLES[..2].join("\n") + "\n").repeat(copies)
 }
 
+/// Such as stand within the lines of a handbook: lifts, stops, pulses per millimetre and slip.
+fn short_bodies() -> Vec<String> {
+    let bodies = [
+        r"k\cdot h",
+        r"p_3 = 8847",
+        r"\sqrt{2 a h}",
+        r"\bar{s} = 0.002",
+        r"\Delta p = m s p_3",
+        r"s = 1 - \frac{k h}{p}",
+        r"h_2 = 1200\,\mathrm{mm}",
+        r"L = 2 h + 4 \pi d + \delta",
+        r"p_i = k \left( h_i - b \right)",
+        r"\bar{s} = \frac{1}{3} \sum_{i} s_i",
+        r"p_i = \frac{k}{1 - \bar{s}} \cdot h_i",
+        r"k = \frac{4096}{420 \pi} \approx 3.10428",
+    ];
+    bodies.map(str::to_owned).to_vec()
+}
+
 fn row(name: &'static str, operation: Operation, input: String, bar: f64) -> Row {
+    one_by_one(name, operation, vec![input], bar)
+}
+
+fn one_by_one(name: &'static str, operation: Operation, inputs: Vec<String>, bar: f64) -> Row {
     Row {
         name,
         operation,
-        input,
+        inputs,
         bar: Some(bar),
     }
 }
@@ -254,6 +325,7 @@ fn rows() -> Vec<Row> {
         row("replacement: one example", Replacement, example(), 0.8),
         row("replacement: 8 KB", Replacement, replaced(5), 0.8),
         row("formula, 4,000 bytes", Body, formula(41), 0.8),
+        one_by_one("12 bodies of 8 to 40 bytes", Body, short_bodies(), 0.6),
         row("one small matrix", Body, small_matrices(1), 0.5),
         row("many small matrices", Body, small_matrices(78), 0.5),
         row("one large matrix", Body, large_matrix(158), 0.5),
@@ -267,7 +339,7 @@ fn doubled(name: &'static str, operation: Operation, input: impl Fn(usize) -> St
     let rows = [1, 2, 4, 8].into_iter().map(|times| Row {
         name,
         operation,
-        input: input(times),
+        inputs: vec![input(times)],
         bar: None,
     });
     rows.collect()
@@ -285,12 +357,42 @@ fn growing() -> Vec<Row> {
     .concat()
 }
 
-/// The last column: the bar, or how many times the row before the port's one call takes where the input is doubled.
-fn verdict(row: &Row, ratio: f64, on_port: f64, before: (&str, f64)) -> String {
+// ---- the table
+
+fn heading() -> String {
+    let before = match archive::BEFORE {
+        Some(_) => format!("{:>13}{:>13}", "before ns/B", "port/before"),
+        None => String::new(),
+    };
+    format!(
+        "{:<28}{:>7}{:>12}{:>12}{:>8}{before}  bar or growth",
+        "input", "bytes", "crate ns/B", "port ns/B", "ratio"
+    )
+}
+
+/// The row's line; `previous` is the name and the port's time of the row above.
+fn line(row: &Row, times: &[f64], previous: (&str, f64)) -> String {
+    let bytes = row.bytes();
+    let (on_crate, on_port) = (times[0], times[1]);
+    let ratio = on_port / on_crate;
+    let before = times.get(2).map_or(String::new(), |before| {
+        format!("{:>13.2}{:>13.3}", before / bytes as f64, on_port / before)
+    });
+    format!(
+        "{:<28}{bytes:>7}{:>12.2}{:>12.2}{ratio:>8.3}{before}  {}",
+        row.name,
+        on_crate / bytes as f64,
+        on_port / bytes as f64,
+        verdict(row, ratio, on_port, previous)
+    )
+}
+
+/// The last column: the bar, or how many times as long as on the row above the port takes where the input is doubled.
+fn verdict(row: &Row, ratio: f64, on_port: f64, previous: (&str, f64)) -> String {
     match row.bar {
         Some(bar) if ratio <= bar => format!("{bar}"),
         Some(bar) => format!("{bar} missed"),
-        None if row.name == before.0 => format!("port x{:.2}", on_port / before.1),
+        None if row.name == previous.0 => format!("port x{:.2}", on_port / previous.1),
         None => String::new(),
     }
 }
@@ -299,31 +401,21 @@ fn main() -> ExitCode {
     let arguments: Vec<String> = std::env::args().collect();
     let rounds = arguments.get(2).and_then(|text| text.parse().ok());
     let part = arguments.get(3).map_or("", |part| part);
-    let mut port = Port::new();
+    let sides = sides();
+    let mut lent = Lent::new();
     let mut all_same = true;
-    let mut before = ("", 0.0);
-    println!(
-        "{:<28}{:>7}{:>12}{:>12}{:>8}  bar or growth",
-        "input", "bytes", "crate ns/B", "port ns/B", "ratio"
-    );
+    let mut previous = ("", 0.0);
+    println!("{}", heading());
     let rows = rows().into_iter().chain(growing());
     for row in rows.filter(|row| row.name.contains(part)) {
-        if !same(&row, &mut port) {
-            println!("{:<28} the two sides differ", row.name);
+        if !same(&row, &sides, &mut lent) {
+            println!("{:<28} the sides differ", row.name);
             all_same = false;
             continue;
         }
-        let (on_crate, on_port) = measure(&row, &mut port, rounds.unwrap_or(60));
-        let bytes = row.input.len();
-        println!(
-            "{:<28}{bytes:>7}{:>12.2}{:>12.2}{:>8.3}  {}",
-            row.name,
-            on_crate / bytes as f64,
-            on_port / bytes as f64,
-            on_port / on_crate,
-            verdict(&row, on_port / on_crate, on_port, before)
-        );
-        before = (row.name, on_port);
+        let times = measure(&row, &sides, &mut lent, rounds.unwrap_or(60));
+        println!("{}", line(&row, &times, previous));
+        previous = (row.name, times[1]);
     }
     match all_same {
         true => ExitCode::SUCCESS,
