@@ -1,173 +1,287 @@
 #!/usr/bin/env python3
-"""Writes the command table of crates/token from the Rust of token.rs. Run at the repository's root, then `rt fmt`.
+"""Writes the command table of crates/token from the Rust's token.rs.
 
   tools/table.py TOKEN.RS
 
-writes, below crates/token,
-  specs/Table.antt           the arms of Token::from_command, sorted by the bytes of their names, spelled as in specs/Arms.antt
-  src/table.rt               the same as functions of the place: a name's first, second and third eight bytes as numbers, and its token
-  proofs/table/*/Proof.antt  the proofs of these functions, an answer of one form for each arm
-Nothing of it is trusted: the proofs hold the functions to specs/Table.antt, and proofs/Agree.antt holds that to specs/Arms.antt.
+Run it at the repository's root, then `rt fmt`. It writes, below crates/token,
+  specs/Table.antt  the names of the commands, sorted by their bytes, each with the code of its token
+  specs/Code.antt   the token that a code stands for
+  src/table.rt      both in Rattle, with a name as words of four bytes
+Nothing of it is trusted: the check holds `table::table` to specs/Table.antt and `table::token_of` to specs/Code.antt,
+and proofs/Agree.antt holds these two to specs/Arms.antt.
 """
-import os
 import re
+import struct
 import sys
 from collections import namedtuple
+from functools import cache
+from pathlib import Path
+from string import Template
 
-CRATE = "crates/token/"
+CRATE = Path("crates/token")
+
 STRING = r'"(?:\\.|[^"\\])*"'
-WORDS = [("first_word", 0), ("second_word", 8), ("third_word", 16)]  # each eight bytes of a name, from that byte on
+CHARACTER = r"'(?:\\.|[^'\\])+'"
+WIDTH = r"-?\d+\.(?:/\d+\.)?"
 
-Entry = namedtuple("Entry", "bytes quoted rattle antt")  # a name, and its token in the two languages
-
-
-def unescape(quoted):
-    """the text between quotes: the escapes that occur are \\\\ and \\u{h}"""
-    return re.sub(r"\\u\{([0-9a-f]+)\}", lambda m: chr(int(m.group(1), 16)), quoted[1:-1]).replace("\\\\", "\\")
+# A command's name, in bytes and as the Rust quotes it, and its token: a form, and the number that its `n` stands for.
+Arm = namedtuple("Arm", "name quoted form number")
 
 
-def numbered(list_name):
-    """the strings of a list of specs/Texts.antt, quoted: a token carries one by its place there"""
-    spec = open(CRATE + "specs/Texts.antt", encoding="utf8").read()
-    return re.findall(STRING, re.search(rf"^{list_name} =(.*?)\[\]$", spec, re.M | re.S).group(1))
+def main(args):
+    if args in (["-h"], ["--help"]):
+        print(__doc__.strip())
+        return
+    if len(args) != 1:
+        stop("give one argument, the path of the Rust's token.rs; --help says more")
+    if not CRATE.is_dir():
+        stop(f"there is no {CRATE} here; run it at the repository's root")
+    arms = read_arms(args[0])
+    forms = sorted_forms(arms)
+    # All are made before the first is written, so that a source that is refused changes none.
+    files = {
+        "specs/Table.antt": table_spec(arms, forms),
+        "specs/Code.antt": code_spec(forms),
+        "src/table.rt": source(arms, forms),
+    }
+    for path, text in files.items():
+        (CRATE / path).write_text(text, encoding="utf8")
 
 
-def token(rhs, texts, widths):
-    """the right-hand side of an arm, as (Rattle, antt)"""
-    kind, args = re.fullmatch(r"(\w+)(?:\((.*)\))?", rhs).groups()
-    if args is None:
-        return f"Token::{kind}", kind
-    if kind == "Style":
-        return f"Token::Style({args})", f"Style {args.split('::')[1]}"
-    if kind == "Binom":
-        style = re.fullmatch(r"None|Some\(DisplayStyle::(\w+)\)", args).group(1)
-        if style is None:
-            return "Token::Binom(Binomial::Plain)", "Binom Plain"
-        return f"Token::Binom(Binomial::Styled(DisplayStyle::{style}))", f"Binom (Styled {style})"
-    if kind == "Space":
-        text = f'"{args}"'
-        return f"Token::Space({widths.index(text)})", f"Space (width {text})"
-    if args.startswith('"'):
-        text = f'"{unescape(args)}"'
-        return f"Token::{kind}({texts.index(text)})", f"{kind} (text {text})"
-    char, rest = re.fullmatch(r"('(?:\\u\{[0-9a-f]+\}|.)')((?:, \w+::\w+)?)", args).groups()
-    char = unescape(char)
-    return f"Token::{kind}({ord(char):#x}{rest})", f'{kind} (code "{char}")' + re.sub(r", \w+::", " ", rest)
+def stop(why):
+    print(f"table.py: {why}", file=sys.stderr)
+    sys.exit(2)
+
+
+# ---- the arms of the Rust
+
+def read_arms(path):
+    """The arms sorted by name: no two have the same."""
+    arms = {}
+    for quoted, token in re.findall(rf"^\s*({STRING})\s*=>\s*(Token::.*?),\s*$", read(path), re.M):
+        name = unescape(quoted).encode()
+        if name in arms:
+            stop(f"{path} has two arms for {quoted}")
+        arms[name] = Arm(name, quoted, *form_and_number(token))
+    if not arms:
+        stop(f"{path} has no arm from a string to a token; it is not the Rust's token.rs")
+    return sorted(arms.values())
 
 
 def read(path):
-    """the Rust's arms, sorted"""
-    texts, widths = numbered("texts"), numbered("widths")
-    arms = re.findall(rf"^\s*({STRING})\s*=>\s*Token::(.*?),\s*$", open(path, encoding="utf8").read(), re.M)
-    return sorted(Entry(unescape(name).encode(), name, *token(rhs, texts, widths)) for name, rhs in arms)
+    try:
+        return Path(path).read_text(encoding="utf8")
+    except UnicodeDecodeError:
+        stop(f"{path} is not UTF-8")
 
 
-def word(entry, at):
-    return int.from_bytes(entry.bytes[at:at + 8].ljust(8, b"\0"), "big")
+def unescape(quoted):
+    r"""The text between quotes: the escapes that occur are \\ and \u{h}."""
+    return re.sub(r"\\u\{([0-9a-f]+)\}", lambda m: chr(int(m[1], 16)), quoted[1:-1]).replace(r"\\", "\\")
 
 
-def write(path, text):
-    os.makedirs(os.path.dirname(CRATE + path), exist_ok=True)
-    open(CRATE + path, "w", encoding="utf8").write(text)
+def form_and_number(token):
+    """A token of the Rust as Rattle has it: with a number for a literal, and `Binomial` for `Option`."""
+    literal = re.search(f"{STRING}|{CHARACTER}|{WIDTH}", token)
+    if literal:
+        return token.replace(literal[0], "n"), number(literal[0])
+    return token.replace("None", "Binomial::Plain").replace("Some", "Binomial::Styled"), 0
+
+
+def number(literal):
+    """A character is its code point, a text or a width its place in a list of specs/Texts.antt."""
+    if literal.startswith("'"):
+        return ord(unescape(literal))
+    if literal.startswith('"'):
+        return place(unescape(literal), numbered("texts"), "texts of specs/Texts.antt")
+    return place(literal, numbered("widths"), "widths of specs/Texts.antt")
+
+
+@cache
+def numbered(list_name):
+    """The strings of a list of specs/Texts.antt, read once for all arms."""
+    spec = read(CRATE / "specs/Texts.antt")
+    listed = re.search(rf"^{list_name} =(.*?)\[\]$", spec, re.M | re.S)[1]
+    return [unescape(quoted) for quoted in re.findall(STRING, listed)]
+
+
+def place(item, items, what):
+    if item not in items:
+        stop(f"{item!r} is not among the {what}")
+    return items.index(item)
+
+
+# ---- the forms and their codes
+
+def sorted_forms(arms):
+    """The forms as codes number them: in the order of the variants of `Token`, then of their text."""
+    tokens = variants("token", "Token")
+
+    def order(form):
+        token = re.match(r"Token::(\w+)", form)[1]
+        return place(token, tokens, "variants of the crate's Token"), form
+
+    return sorted({arm.form for arm in arms}, key=order)
+
+
+def variants(crate, enum):
+    declared = re.search(rf"^pub enum {enum} \{{(.*?)^\}}", read(f"crates/{crate}/src/lib.rt"), re.M | re.S)[1]
+    return re.findall(r"^    (\w+)", declared, re.M)
+
+
+def code(arm, forms):
+    """The mark of a code, then the form's place in seven bits, then the number in 24."""
+    return hexadecimal(2**31 + forms.index(arm.form) * 2**24 + arm.number)
+
+
+def hexadecimal(word):
+    return f"{word:#010x}"
 
 
 # ---- specs/Table.antt
 
-def spec(table):
-    def used(enum):
-        return ", ".join(dict.fromkeys(v for e in table for v in re.findall(rf"\b{enum}::(\w+)", e.rattle)))
+TABLE_SPEC = Template("""\
+-- The command table: the names of `Arms`, sorted by their bytes, each with the code of its token (`Code`). Written by tools/table.py;
+-- the law file `Agree` shows its order, and that it says what `Arms` says.
+-- Assumes nothing.
+use mathlib.Core.List.{List, [], _∷_}
+use Prim.Native.Nat.{ℕ}
+use Rattle.token.specs.Spell.{Arm, _=>_}
 
-    uses = [("Rattle.attribute.specs", "Variant"), ("Rattle.attribute.specs", "Accent"), ("Rattle.attribute.specs", "DisplayStyle"),
-            ("Rattle.token.specs", "Binomial"), ("Rattle.token.specs", "Token")]
-    out = "-- The command table: the arms of `Arms`, sorted by the bytes of their names. Written by tools/table.py; the law file `Agree`\n"
-    out += "-- shows its order, and that it says what `Arms` says.\n-- Assumes nothing.\n"
-    out += "use mathlib.Core.List.{List, [], _∷_}\nuse Prim.Native.Nat.{ℕ}\nuse Prim.Native.Char.{code}\n"
-    out += "".join(f"use {specs}.declared.{enum}.the-variants.{{{used(enum)}}}\n" for specs, enum in uses)
-    out += "use Rattle.token.specs.declared.Token.{Token}\n"
-    out += "use Rattle.token.specs.Texts.{text, width}\nuse Rattle.token.specs.Spell.{Arm, _=>_}\n\n"
-    out += f"-- the number of its entries\nabbrev pub size : ℕ\nsize = {len(table)}\n\n"
-    out += "-- each name with its token\nunfoldable pub entries : List (Arm Token)\nentries =\n"
-    out += "".join(f"    {e.quoted} => {e.antt} ∷\n" for e in table) + "    []\n"
-    write("specs/Table.antt", out)
+-- the number of its entries
+abbrev pub size : ℕ
+size = $size
+
+-- each name with its code
+unfoldable pub entries : List (Arm ℕ)
+entries =
+$entries    []
+""")
+
+
+def table_spec(arms, forms):
+    entries = "".join(f"    {arm.quoted} => {code(arm, forms)} ∷\n" for arm in arms)
+    return TABLE_SPEC.substitute(size=len(arms), entries=entries)
+
+
+# ---- specs/Code.antt
+
+CODE_SPEC = Template("""\
+-- The codes of the command table: the highest bit marks a code, the next seven are a form, and the form makes a token of the other 24.
+-- Assumes nothing.
+use mathlib.Core.List.{List, [], _∷_}
+use Prim.Native.Nat.{ℕ, _/_, _%_}
+use lib.ListN.{getD}
+use Rattle.attribute.specs.declared.Variant.the-variants.{$variant}
+use Rattle.attribute.specs.declared.Accent.the-variants.{$accent}
+use Rattle.attribute.specs.declared.DisplayStyle.the-variants.{$style}
+use Rattle.token.specs.declared.Binomial.the-variants.{$binomial}
+use Rattle.token.specs.declared.Token.{Token}
+use Rattle.token.specs.declared.Token.the-variants.{EOF, $token}
+
+-- what each form makes of a number
+unfoldable pub forms : List (ℕ → Token)
+forms =
+$forms    []
+
+-- the token that a code stands for
+unfoldable pub tokenOf : ℕ → Token
+tokenOf code = getD forms (code / 0x1000000 % 0x80) (λ n. EOF) (code % 0x1000000)
+""")
+
+
+def code_spec(forms):
+    return CODE_SPEC.substitute(
+        variant=used("attribute", "Variant", forms),
+        accent=used("attribute", "Accent", forms),
+        style=used("attribute", "DisplayStyle", forms),
+        binomial=used("token", "Binomial", forms),
+        token=used("token", "Token", forms),
+        forms="".join(f"    {as_function(form)} ∷\n" for form in forms),
+    )
+
+
+def used(crate, enum, forms):
+    """The variants of an enum that occur in the forms, to be imported."""
+    occurring = re.findall(rf"\b{enum}::(\w+)", " ".join(forms))
+    return ", ".join(variant for variant in variants(crate, enum) if variant in occurring)
+
+
+def as_function(form):
+    """A form in antt, as a function of its number: the call `f(x, y)` is there `(f x y)`."""
+    call = re.sub(r"\w+::", "", form)
+    if call.endswith("(n)"):
+        return call.removesuffix("(n)")
+    applied = re.sub(r"(\w+)\(", r"(\1 ", call).replace(",", "")
+    return f"(λ n. {applied.removeprefix('(').removesuffix(')')})"
 
 
 # ---- src/table.rt
 
-def function(fn, what, result, definition, arms, rest):
-    out = f"\n// {what}\npub fn {fn}(i: usize) -> {result}\n    requires {{ ⌜ i < size ⌝ }}\n    ensures {{ λ r. ⌜ r ≡ {definition} ⌝ }}\n"
-    out += "{\n    match i {\n" + "".join(f"        {i} => {value}, // {e.quoted}\n" for i, value, e in arms)
-    return out + f"        _ => {rest},\n    }}\n}}\n"
+SOURCE = Template("""\
+// The command table, sorted by name: a row has the words of a name, four bytes each, big-endian, with zeros behind its end, and the code
+// of its token, which alone has the highest bit. Written by tools/table.py from the Rust's token.rs.
+use super::Binomial;
+use super::Token;
+use attribute::Accent;
+use attribute::DisplayStyle;
+use attribute::Variant;
+ghost use mathlib.Core.Path.{_≡_};
+ghost use Rattle.token.specs.Code.{tokenOf};
+ghost use Rattle.token.specs.Key.{rows};
+
+// The number of its words.
+pub const LENGTH: usize = $length;
+
+// From this number on a word is a code.
+pub const MARK: u32 = 0x80000000;
+
+pub type Table = [u32; $length];
+
+// Each row begins with the comment that has its name.
+pub const TABLE: Table = [
+$rows];
+
+// The table, for a caller to lend. It is laid down anew by each call: an operation makes one.
+pub fn table() -> Table
+    ensures { λ r. ⌜ r ≡ rows ⌝ }
+{
+    TABLE
+}
+
+// The token that a code stands for: seven bits behind the mark are its form, the rest is what the form holds.
+pub fn token_of(code: u32) -> Token
+    ensures { λ r. ⌜ r ≡ tokenOf code ⌝ }
+{
+    let n = code % 0x1000000;
+    match code / 0x1000000 % 0x80 {
+$forms        _ => Token::EOF,
+    }
+}
+""")
 
 
-def name_from(at):
-    return f"drop {at} (nameAt i)" if at else "nameAt i"
+def source(arms, forms):
+    words = [row(arm, forms) for arm in arms]
+    return SOURCE.substitute(
+        length=sum(map(len, words)),
+        rows="".join(map(shown_row, arms, words)),
+        forms="".join(f"        {i} => {form},\n" for i, form in enumerate(forms)),
+    )
 
 
-def code(table):
-    out = "// The command table, sorted by name, as functions of the place. Written by tools/table.py from the Rust's token.rs.\n"
-    out += "use super::Binomial;\nuse super::Token;\nuse attribute::Accent;\nuse attribute::DisplayStyle;\nuse attribute::Variant;\n\n"
-    out += "ghost use mathlib.Core.Path.{_≡_};\nghost use Prim.Native.Nat.{_<_};\nghost use lib.ListN.{drop};\n"
-    out += "ghost use Rattle.token.specs.Table.{size};\nghost use Rattle.token.specs.Key.{nameAt, tokenAt, wordOf};\n"
-    out += f"\n// The number of its entries.\npub const SIZE: usize = {len(table)};\n"
-    for fn, at in WORDS:
-        arms = [(i, f"{word(e, at):#018x}", e) for i, e in enumerate(table) if word(e, at)]
-        what = f"The {fn.split('_')[0]} eight bytes of the name at i as a number, with zeros behind its end."
-        out += function(fn, what, "u64", f"wordOf ({name_from(at)})", arms, "0")
-    arms = [(i, e.rattle, e) for i, e in enumerate(table)]
-    write("src/table.rt", out + function("token_at", "The token of the name at i.", "Token", "tokenAt i", arms, "Token::EOF"))
+def row(arm, forms):
+    """The words of the name, filled up with zeros, and the code."""
+    name = arm.name + b"\0" * (-len(arm.name) % 4)
+    return [hexadecimal(word) for (word,) in struct.iter_unpack(">I", name)] + [code(arm, forms)]
 
 
-# ---- proofs/table/*/Proof.antt
-
-def proof(fn, uses, before, unfolded, definition, count, rest):
-    """for each arm: at its place the definition computes to its value; for `_` the answer `rest`"""
-    needs = ["returns"] + [f"returns-{k}" for k in range(2, count + 2)]
-    name = fn.replace("_", "-")
-    out = f"-- `token::table::{fn}` meets its contract: at each arm's place the definition computes to the arm's value.\n"
-    out += "-- Written by tools/table.py. Assumes nothing.\n"
-    out += "".join(f"use {module}.{{{names}}}\n" for module, names in uses)
-    out += f"use Rattle.token.proofs.table.{fn}.Statement.{{statement}}\nuse Rattle.token.proofs.table.{fn}.Tie as tie\n{before}"
-    for k, need in enumerate(needs[:-1], 1):
-        out += f"\n{need} : tie.Need-{need}\nunfolding {unfolded}\n{need} c = sym (ap {definition} (c .match .keys{k}))\n"
-    out += f"\n{needs[-1]} : tie.Need-{needs[-1]}\n{needs[-1]} c = {rest}\n"
-    out += f"\npub {name}-spec : {{M : Type 1}} → statement M\n{name}-spec = tie.close (tie.spec {' '.join(needs)})\n"
-    write(f"proofs/table/{fn}/Proof.antt", out)
-
-
-def proofs(table):
-    n = len(table)
-    specs, laws = "Rattle.token.specs.", "Rattle.text.proofs."
-    path, entries, omega = ("mathlib.Core.Path", "sym, ap"), (specs + "Table", "size, entries"), ("native.Mathlib.Omega", "arith")
-    past = "absurd (omega (arith, past size _ (c .match .rest)))"
-    for fn, at in WORDS:
-        key = (specs + "Key", "nameAt, packed, wordOf")
-        unfolded, definition = "wordOf packed nameAt entries", f"(λ i. wordOf ({name_from(at)}))"
-        places = [i for i, e in enumerate(table) if word(e, at)]
-        if len(places) == n:
-            proof(fn, [path, omega, entries, key, (laws + "Keys", "past")], "", unfolded, definition, n, past)
-            continue
-        before = f"""
--- the places of the names with more than {at} bytes, the last first
-abbrev places : List ℕ
-places = {' ∷ '.join(map(str, reversed(places)))} ∷ []
-
--- at any other the definition computes to 0
-others : tab {{A = ℕ}} (λ i. elim (among places i) [ true ↦ 0 | false ↦ wordOf ({name_from(at)}) ]) size ≡ tab (λ i. 0) size
-unfolding {unfolded}
-others = refl
-"""
-        uses = [("mathlib.Core.Path", "_≡_, refl, sym, ap"), ("mathlib.Core.Bool", "true, false"), ("mathlib.Core.List", "List, [], _∷_"),
-                ("Prim.Native.Nat", "ℕ"), ("lib.ListN", "drop"), entries, key, (laws + "Tabled", "tab"), (laws + "Keys", "among, elsewhere")]
-        rest = f"sym (elsewhere {definition} 0 places size others _ (c .before .pre) (c .match .rest))"
-        proof(fn, uses, before, unfolded, definition, len(places), rest)
-    uses = [path, omega, (specs + "Texts", "texts, text, widths, width"), entries, (specs + "Key", "tokenAt"), (laws + "Keys", "past")]
-    proof("token_at", uses, "", "tokenAt entries text texts width widths", "tokenAt", n, past)
+def shown_row(arm, words):
+    return f"    // {arm.quoted}\n" + "".join(f"    {word},\n" for word in words)
 
 
 if __name__ == "__main__":
-    if len(sys.argv) != 2:
-        sys.exit(f"usage: {sys.argv[0]} TOKEN.RS: the Rust source whose Token::from_command is the table")
-    commands = read(sys.argv[1])
-    spec(commands)
-    code(commands)
-    proofs(commands)
+    try:
+        main(sys.argv[1:])
+    except OSError as error:
+        stop(f"{error.filename}: {error.strerror}")

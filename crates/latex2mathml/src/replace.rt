@@ -11,10 +11,13 @@ use parse::ParsedNodes;
 use parse::body::parse;
 use text::put::put;
 use text::well_formed;
+use token::table::Table;
+use token::table::table;
 ghost use mathlib.Core.Path.{_≡_};
 ghost use mathlib.Core.Bool.{true};
 ghost use Prim.Native.Nat.{_+_, _*_, _^_, _≤_, _<_};
 ghost use lib.ListN.{length};
+ghost use Rattle.token.specs.Key.{rows};
 ghost use Rattle.latex2mathml.specs.Replace.{translateBody, firstPass, secondPass, replacement};
 ghost use Rattle.latex2mathml.specs.Dollars.{width};
 ghost use Rattle.latex2mathml.specs.Written.{Gives, Replaces};
@@ -40,23 +43,24 @@ fn lay_body(
     out: &mut [u8],
     at: usize,
     sure: bool,
+    table: &Table,
 ) -> Answer
-    requires { ⌜ RoomFor (translateBody (length (now store)) display (now s)) sure (now out) at ⌝ }
+    requires { ⌜ RoomFor (translateBody (length (now store)) display (now s)) sure (now out) at × (now table ≡ rows) ⌝ }
     ensures { λ r. ⌜ Lays (translateBody (length (now (store .entry))) display (now (s .entry))) (now (out .entry)) (now (out .exit)) at r ⌝ }
 {
-    match parse(s, store, 256) {
+    match parse(s, store, 256, table) {
         ParsedNodes::Refused(r) => Answer::Refused(r),
         ParsedNodes::Nodes(first, count, made) => {
             let n = count as u32;
             if sure {
-                let end = put_math(s, display, store, first, n, made, out, at, true);
+                let end = put_math(s, display, store, first, n, made, out, at, true, table);
                 return Answer::Accepted(end);
             }
-            let end = put_math(s, display, store, first, n, made, out, at, false);
+            let end = put_math(s, display, store, first, n, made, out, at, false, table);
             if out.len() < end {
                 return Answer::Accepted(end);
             }
-            put_math(s, display, store, first, n, made, out, at, true);
+            put_math(s, display, store, first, n, made, out, at, true, table);
             Answer::Accepted(end)
         }
     }
@@ -81,8 +85,9 @@ fn substitute(
     out: &mut [u8],
     start: usize,
     sure: bool,
+    table: &Table,
 ) -> Answer
-    requires { ⌜ Passable (length (now store)) display double (now s) sure (now out) start ⌝ }
+    requires { ⌜ Passable (length (now store)) display double (now s) sure (now out) start × (now table ≡ rows) ⌝ }
     ensures { λ r. ⌜ Lays (passed (length (now (store .entry))) display double (now (s .entry))) (now (out .entry)) (now (out .exit)) start r × AtMost (start + length (now (s .entry)) * growth) r ⌝ }
 {
     let width = width(double);
@@ -95,7 +100,7 @@ fn substitute(
         }
         let b = next_mark(s, a + width, double);
         at = lay(&s[from..a], out, at);
-        match lay_body(&s[a + width..b], display, store, out, at, sure) {
+        match lay_body(&s[a + width..b], display, store, out, at, sure, table) {
             Answer::Refused(r) => {
                 return Answer::Refused(r);
             }
@@ -115,18 +120,26 @@ fn write_pass(
     store: &mut [u8],
     out: &mut [u8],
     at: usize,
+    table: &Table,
 ) -> usize
-    requires { ⌜ Passable (length (now store)) display double (now s) true (now out) at ⌝ }
+    requires { ⌜ Passable (length (now store)) display double (now s) true (now out) at × (now table ≡ rows) ⌝ }
     ensures { λ r. ⌜ WrittenThere (passed (length (now (store .entry))) display double (now (s .entry))) (now (out .entry)) (now (out .exit)) at r × (r ≤ at + length (now (s .entry)) * growth) ⌝ }
 {
-    match substitute(s, double, display, store, out, at, true) {
+    match substitute(s, double, display, store, out, at, true, table) {
         Answer::Accepted(end) => end,
         Answer::Refused(r) => at,
     }
 }
 
 // Pass one, with `room` bytes for its text: it goes to a buffer if it fits there. A text without marks is looked through once.
-fn first_pass(document: &[u8], store: &mut [u8], room: usize, out: &mut [u8]) -> Answer
+fn first_pass(
+    document: &[u8],
+    store: &mut [u8],
+    room: usize,
+    out: &mut [u8],
+    table: &Table,
+) -> Answer
+    requires { ⌜ now table ≡ rows ⌝ }
     ensures { λ r. ⌜ Lays (firstPass (now (document .entry)) (length (now (store .entry))) room) (now (out .entry)) (now (out .exit)) 0 r × AtMost (length (now (document .entry)) * growth) r ⌝ }
 {
     if 32768 < document.len() {
@@ -147,7 +160,16 @@ fn first_pass(document: &[u8], store: &mut [u8], room: usize, out: &mut [u8]) ->
     if three_dollars(document) {
         return Answer::Refused(Refusal::ThreeDollarSigns);
     }
-    match substitute(document, true, DisplayStyle::Block, store, out, 0, false) {
+    match substitute(
+        document,
+        true,
+        DisplayStyle::Block,
+        store,
+        out,
+        0,
+        false,
+        table,
+    ) {
         Answer::Refused(r) => Answer::Refused(r),
         Answer::Accepted(n) => {
             if room < n {
@@ -159,8 +181,8 @@ fn first_pass(document: &[u8], store: &mut [u8], room: usize, out: &mut [u8]) ->
 }
 
 // Pass two: its text goes to a place of a buffer if it fits there.
-fn second_pass(text: &[u8], store: &mut [u8], out: &mut [u8], at: usize) -> Answer
-    requires { ⌜ at + length (now text) * growth < 2 ^ 64 ⌝ }
+fn second_pass(text: &[u8], store: &mut [u8], out: &mut [u8], at: usize, table: &Table) -> Answer
+    requires { ⌜ (at + length (now text) * growth < 2 ^ 64) × (now table ≡ rows) ⌝ }
     ensures { λ r. ⌜ Lays (secondPass (length (now (store .entry))) (now (text .entry))) (now (out .entry)) (now (out .exit)) at r × AtMost (at + length (now (text .entry)) * growth) r ⌝ }
 {
     if first_mark(text, false) == text.len() {
@@ -169,7 +191,16 @@ fn second_pass(text: &[u8], store: &mut [u8], out: &mut [u8], at: usize) -> Answ
     if odd_marks(text, false) {
         return Answer::Refused(Refusal::InvalidNumberOfDollarSigns);
     }
-    substitute(text, false, DisplayStyle::Inline, store, out, at, false)
+    substitute(
+        text,
+        false,
+        DisplayStyle::Inline,
+        store,
+        out,
+        at,
+        false,
+        table,
+    )
 }
 
 // Writes the text of a pass that was drafted: it is copied, or parsed again where the draft is too short for it.
@@ -181,28 +212,38 @@ fn settle(
     draft: &[u8],
     n: usize,
     out: &mut [u8],
+    table: &Table,
 ) -> usize
-    requires { ⌜ Passable (length (now store)) display double (now s) true (now out) 0 × Begins (passed (length (now store)) display double (now s)) (now draft) n ⌝ }
+    requires { ⌜ Passable (length (now store)) display double (now s) true (now out) 0 × Begins (passed (length (now store)) display double (now s)) (now draft) n × (now table ≡ rows) ⌝ }
     ensures { λ r. ⌜ WrittenThere (passed (length (now (store .entry))) display double (now (s .entry))) (now (out .entry)) (now (out .exit)) 0 r ⌝ }
 {
     if n <= draft.len() {
         return put(&draft[..n], out, 0, true);
     }
-    write_pass(s, double, display, store, out, 0)
+    write_pass(s, double, display, store, out, 0, table)
 }
 
 // Pass two, drafted and then written.
-fn finish(text: &[u8], store: &mut [u8], out: &mut [u8], draft: &mut [u8]) -> Answer
-    requires { ⌜ length (now text) * growth < 2 ^ 64 ⌝ }
+fn finish(text: &[u8], store: &mut [u8], out: &mut [u8], draft: &mut [u8], table: &Table) -> Answer
+    requires { ⌜ (length (now text) * growth < 2 ^ 64) × (now table ≡ rows) ⌝ }
     ensures { λ r. ⌜ Gives (inRoom (length (now (out .entry))) (secondPass (length (now (store .entry))) (now (text .entry)))) r (now (out .entry)) (now (out .exit)) ⌝ }
 {
-    match second_pass(text, store, draft, 0) {
+    match second_pass(text, store, draft, 0, table) {
         Answer::Refused(r) => Answer::Refused(r),
         Answer::Accepted(n) => {
             if out.len() < n {
                 return Answer::Refused(Refusal::OutputTooSmall);
             }
-            settle(text, false, DisplayStyle::Inline, store, draft, n, out);
+            settle(
+                text,
+                false,
+                DisplayStyle::Inline,
+                store,
+                draft,
+                n,
+                out,
+                table,
+            );
             Answer::Accepted(n)
         }
     }
@@ -218,11 +259,21 @@ fn replace_in(
 ) -> Answer
     ensures { λ r. ⌜ Replaces (now (document .entry)) (length (now (store .entry))) r (now (work .entry)) (now (work .exit)) (now (out .entry)) (now (out .exit)) ⌝ }
 {
-    match first_pass(document, store, work.len(), draft) {
+    let commands = table();
+    match first_pass(document, store, work.len(), draft, &commands) {
         Answer::Refused(r) => Answer::Refused(r),
         Answer::Accepted(n) => {
-            settle(document, true, DisplayStyle::Block, store, draft, n, work);
-            finish(&work[..n], store, out, draft)
+            settle(
+                document,
+                true,
+                DisplayStyle::Block,
+                store,
+                draft,
+                n,
+                work,
+                &commands,
+            );
+            finish(&work[..n], store, out, draft, &commands)
         }
     }
 }
@@ -253,13 +304,14 @@ pub fn lay_replacement(
     work: &mut [u8],
     out: &mut [u8],
     at: usize,
+    table: &Table,
 ) -> Answer
-    requires { ⌜ at + length (now document) * (growth * growth) < 2 ^ 63 ⌝ }
+    requires { ⌜ (at + length (now document) * (growth * growth) < 2 ^ 63) × (now table ≡ rows) ⌝ }
     ensures { λ r. ⌜ Lays (replacement (now (document .entry)) (length (now (store .entry))) (length (now (work .entry)))) (now (out .entry)) (now (out .exit)) at r × AtMost (at + length (now (document .entry)) * (growth * growth)) r ⌝ }
 {
-    match first_pass(document, store, work.len(), work) {
+    match first_pass(document, store, work.len(), work, table) {
         Answer::Refused(r) => Answer::Refused(r),
-        Answer::Accepted(n) => second_pass(&work[..n], store, out, at),
+        Answer::Accepted(n) => second_pass(&work[..n], store, out, at, table),
     }
 }
 
@@ -270,10 +322,19 @@ pub fn write_replacement(
     work: &mut [u8],
     out: &mut [u8],
     at: usize,
+    table: &Table,
 ) -> usize
-    requires { ⌜ Fits (replacement (now document) (length (now store)) (length (now work))) (now out) at ⌝ }
+    requires { ⌜ Fits (replacement (now document) (length (now store)) (length (now work))) (now out) at × (now table ≡ rows) ⌝ }
     ensures { λ r. ⌜ WrittenThere (replacement (now (document .entry)) (length (now (store .entry))) (length (now (work .entry)))) (now (out .entry)) (now (out .exit)) at r ⌝ }
 {
-    let n = write_pass(document, true, DisplayStyle::Block, store, work, 0);
-    write_pass(&work[..n], false, DisplayStyle::Inline, store, out, at)
+    let n = write_pass(document, true, DisplayStyle::Block, store, work, 0, table);
+    write_pass(
+        &work[..n],
+        false,
+        DisplayStyle::Inline,
+        store,
+        out,
+        at,
+        table,
+    )
 }

@@ -9,8 +9,12 @@ use parse::body::parse;
 use print::print_nodes;
 use text::put::put;
 use text::well_formed;
+use token::table::Table;
+use token::table::table;
+ghost use mathlib.Core.Path.{_≡_};
 ghost use lib.ListN.{length};
 ghost use Rattle.text.specs.Put.{Room, Puts};
+ghost use Rattle.token.specs.Key.{rows};
 ghost use Rattle.markup.specs.Print.{printAll};
 ghost use Rattle.print.specs.Shown.{NodesAt, Printable, Prints};
 ghost use Rattle.latex2mathml.specs.Translate.{inMath};
@@ -42,12 +46,13 @@ pub fn put_math(
     out: &mut [u8],
     at: usize,
     write: bool,
+    table: &Table,
 ) -> usize
-    requires { ⌜ Printable (NodesAt (now s) (now store) left a n) (λ ns. inMath display (printAll (now s) ns)) write (now out) at ⌝ }
+    requires { ⌜ Printable (NodesAt (now s) (now store) left a n) (λ ns. inMath display (printAll (now s) ns)) write (now out) at × (now table ≡ rows) ⌝ }
     ensures { λ r. ⌜ Prints (NodesAt (now (s .entry)) (now (store .entry)) left a n) (λ ns. inMath display (printAll (now (s .entry)) ns)) write (now (out .entry)) (now (out .exit)) at r ⌝ }
 {
     let inner = put_opening(display, out, at, write);
-    let end = print_nodes(Place::Plain, s, store, a, n, left, out, inner, write);
+    let end = print_nodes(Place::Plain, s, store, a, n, left, out, inner, write, table);
     put(b"</math>", out, end, write)
 }
 
@@ -61,15 +66,16 @@ pub fn latex_to_mathml(s: &[u8], display: DisplayStyle, store: &mut [u8], out: &
     if !well_formed(s) {
         return Answer::Refused(Refusal::IllFormed);
     }
-    match parse(s, store, 256) {
+    let commands = table();
+    match parse(s, store, 256, &commands) {
         ParsedNodes::Refused(r) => Answer::Refused(r),
         ParsedNodes::Nodes(first, count, made) => {
             let n = count as u32;
-            let length = put_math(s, display, store, first, n, made, out, 0, false);
+            let length = put_math(s, display, store, first, n, made, out, 0, false, &commands);
             if out.len() < length {
                 return Answer::Refused(Refusal::OutputTooSmall);
             }
-            put_math(s, display, store, first, n, made, out, 0, true);
+            put_math(s, display, store, first, n, made, out, 0, true, &commands);
             Answer::Accepted(length)
         }
     }

@@ -2,20 +2,23 @@
 use crate::reader::token_from;
 use text::put::put_code_point;
 use token::Token;
+use token::table::Table;
+ghost use mathlib.Core.Path.{_≡_};
 ghost use lib.ListN.{length};
 ghost use Rattle.text.specs.Put.{Room, Puts};
+ghost use Rattle.token.specs.Key.{rows};
 ghost use Rattle.lexer.specs.Letters.{letters, encodeAll};
 
 // Puts the characters of the letters at the head of a text.
-pub fn put_letters(t: &[u8], out: &mut [u8], at: usize, write: bool) -> usize
-    requires { ⌜ Room write (now out) at (length (encodeAll (letters (now t)))) ⌝ }
+pub fn put_letters(t: &[u8], out: &mut [u8], at: usize, write: bool, table: &Table) -> usize
+    requires { ⌜ Room write (now out) at (length (encodeAll (letters (now t)))) × (now table ≡ rows) ⌝ }
     ensures { λ r. ⌜ Puts write (now (out .entry)) (now (out .exit)) at (encodeAll (letters (now (t .entry)))) r ⌝ }
 {
     let mut place = at;
     let mut i = 0;
     loop {
         let rest = &t[i..];
-        let l = token_from(rest, 0);
+        let l = token_from(rest, 0, table);
         let token = l.token;
         match token {
             Token::Letter(c, _) => {

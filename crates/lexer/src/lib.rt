@@ -6,10 +6,12 @@ use attribute::Variant;
 use text::code_point;
 use token::Token;
 use token::from_command;
+use token::table::Table;
 ghost use mathlib.Core.Path.{_≡_};
 ghost use mathlib.Core.Bool.{false};
 ghost use Prim.Native.Nat.{_+_, _≤_, _<_};
 ghost use lib.ListN.{length, drop, getD};
+ghost use Rattle.token.specs.Key.{rows};
 ghost use Rattle.lexer.specs.Lex.{isWhitespace, isDigit, isAlphabetic, run, skipWhitespace, readNumber, nameLength, lexeme, readCommand, numberAt, assigns, tokenAt, nextToken};
 
 // A token with the place of its first byte in the body and the place after its last.
@@ -146,15 +148,15 @@ impl Cursor {
     }
 
     // A command, whose backslash is at the cursor.
-    fn read_command(self, s: &[u8]) -> Lexeme
-        requires { ⌜ self .at < length (now s) ⌝ }
+    fn read_command(self, s: &[u8], table: &Table) -> Lexeme
+        requires { ⌜ (self .at < length (now s)) × (now table ≡ rows) ⌝ }
         ensures { λ r. ⌜ r ≡ readCommand (self .at) (drop 1 (drop (self .at) (now (s .entry)))) ⌝ }
     {
         let at = self.at;
         let name = at + 1;
         let after = Cursor { at: name }.skip_name(s);
         let end = after.at;
-        Lexeme::new(from_command(s, name, end), at, end)
+        Lexeme::new(from_command(s, name, end, table), at, end)
     }
 
     // Whether a colon and an equals sign stand at the cursor.
@@ -173,8 +175,8 @@ impl Cursor {
     }
 
     // The token at the cursor: one decision over the character there.
-    fn token_at(self, s: &[u8]) -> Lexeme
-        requires { ⌜ self .at ≤ length (now s) ⌝ }
+    fn token_at(self, s: &[u8], table: &Table) -> Lexeme
+        requires { ⌜ (self .at ≤ length (now s)) × (now table ≡ rows) ⌝ }
         ensures { λ r. ⌜ r ≡ tokenAt (self .at) (drop (self .at) (now (s .entry))) ⌝ }
     {
         let at = self.at;
@@ -212,7 +214,7 @@ impl Cursor {
                 }
                 Lexeme::new(Token::Operator(58), at, end)
             }
-            92 => self.read_command(s), // a backslash
+            92 => self.read_command(s, table), // a backslash
             48..=57 => self.read_number(s),
             65..=90 => Lexeme::new(Token::Letter(c, Variant::Italic), at, end),
             97..=122 => Lexeme::new(Token::Letter(c, Variant::Italic), at, end),
@@ -221,11 +223,11 @@ impl Cursor {
     }
 
     // The next token, from the first byte that is no whitespace.
-    fn next_token(self, s: &[u8]) -> Lexeme
-        requires { ⌜ self .at ≤ length (now s) ⌝ }
+    fn next_token(self, s: &[u8], table: &Table) -> Lexeme
+        requires { ⌜ (self .at ≤ length (now s)) × (now table ≡ rows) ⌝ }
         ensures { λ r. ⌜ (r ≡ nextToken (self .at) (drop (self .at) (now (s .entry)))) × (r .end ≤ length (now (s .entry))) ⌝ }
     {
         let here = self.skip_whitespace(s);
-        here.token_at(s)
+        here.token_at(s, table)
     }
 }

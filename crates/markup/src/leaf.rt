@@ -10,11 +10,14 @@ use text::put::put;
 use text::put::put_code_point;
 use token::Undefined;
 use token::debug::put_debug;
+use token::table::Table;
 use token::texts::put_text;
 use token::texts::put_width;
+ghost use mathlib.Core.Path.{_≡_};
 ghost use mathlib.Core.List.{_++_};
 ghost use Prim.Native.Nat.{_≤_};
 ghost use lib.ListN.{length};
+ghost use Rattle.token.specs.Key.{rows};
 ghost use Rattle.text.specs.Utf8.{encode};
 ghost use Rattle.text.specs.Text.{bytes, part};
 ghost use Rattle.text.specs.Put.{Room, Puts};
@@ -96,12 +99,13 @@ fn put_letters_in(
     out: &mut [u8],
     at: usize,
     write: bool,
+    table: &Table,
 ) -> usize
-    requires { ⌜ (a ≤ e) × (e ≤ length (now s)) × Room write (now out) at (length (now front ++ letterText (now s) a e ++ now back)) ⌝ }
+    requires { ⌜ (a ≤ e) × (e ≤ length (now s)) × Room write (now out) at (length (now front ++ letterText (now s) a e ++ now back)) × (now table ≡ rows) ⌝ }
     ensures { λ r. ⌜ Puts write (now (out .entry)) (now (out .exit)) at (now (front .entry) ++ letterText (now (s .entry)) a e ++ now (back .entry)) r ⌝ }
 {
     let inner = put(front, out, at, write);
-    let end = put_letters(&s[a..e], out, inner, write);
+    let end = put_letters(&s[a..e], out, inner, write, table);
     put(back, out, end, write)
 }
 
@@ -242,8 +246,16 @@ fn put_new_line(place: Place, out: &mut [u8], at: usize, write: bool) -> usize
 }
 
 // Puts a leaf at a place. A byte string is laid down where its function begins; copied in a block it is laid down only in its arm.
-pub fn put_leaf(place: Place, s: &[u8], l: Leaf, out: &mut [u8], at: usize, write: bool) -> usize
-    requires { ⌜ LeafInside (length (now s)) l × Room write (now out) at (length (atPlace place (leaf l) (printLeaf (now s) l))) ⌝ }
+pub fn put_leaf(
+    place: Place,
+    s: &[u8],
+    l: Leaf,
+    out: &mut [u8],
+    at: usize,
+    write: bool,
+    table: &Table,
+) -> usize
+    requires { ⌜ LeafInside (length (now s)) l × Room write (now out) at (length (atPlace place (leaf l) (printLeaf (now s) l))) × (now table ≡ rows) ⌝ }
     ensures { λ r. ⌜ Puts write (now (out .entry)) (now (out .exit)) at (atPlace place (leaf l) (printLeaf (now (s .entry)) l)) r ⌝ }
 {
     match l {
@@ -260,6 +272,7 @@ pub fn put_leaf(place: Place, s: &[u8], l: Leaf, out: &mut [u8], at: usize, writ
             out,
             at,
             write,
+            table,
         ),
         Leaf::Space(w) => put_width_in(
             &{ *b"<mspace width=\"" },
@@ -281,6 +294,7 @@ pub fn put_leaf(place: Place, s: &[u8], l: Leaf, out: &mut [u8], at: usize, writ
             out,
             at,
             write,
+            table,
         ),
         Leaf::Ampersand => put_ampersand(place, out, at, write),
         Leaf::NewLine => put_new_line(place, out, at, write),

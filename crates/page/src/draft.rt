@@ -5,9 +5,11 @@ use crate::breaks::next_break;
 use latex2mathml::Answer;
 use latex2mathml::replace::lay;
 use latex2mathml::replace::lay_replacement;
+use token::table::Table;
 ghost use mathlib.Core.Path.{_≡_};
 ghost use Prim.Native.Nat.{_+_, _*_, _^_, _≤_, _<_};
 ghost use lib.ListN.{length};
+ghost use Rattle.token.specs.Key.{rows};
 ghost use Rattle.latex2mathml.specs.Laid.{growth};
 ghost use Rattle.page.specs.Marks.{Drafted, Totalled};
 
@@ -20,11 +22,12 @@ fn draft_paragraph(
     at: usize,
     left: &mut [u8],
     k: usize,
+    table: &Table,
 ) -> usize
-    requires { ⌜ (k < length (now left)) × (at + length (now p) * (growth * growth) < 2 ^ 63) ⌝ }
+    requires { ⌜ (k < length (now left)) × (at + length (now p) * (growth * growth) < 2 ^ 63) × (now table ≡ rows) ⌝ }
     ensures { λ r. ⌜ Drafted (now (p .entry)) (length (now (store .entry))) (length (now (work .entry))) (now (draft .entry)) (now (draft .exit)) at (now (left .entry)) (now (left .exit)) k r ⌝ }
 {
-    match lay_replacement(p, store, work, draft, at) {
+    match lay_replacement(p, store, work, draft, at, table) {
         Answer::Accepted(end) => {
             left[k] = 0;
             end
@@ -50,8 +53,9 @@ pub fn draft_page(
     work: &mut [u8],
     draft: &mut [u8],
     left: &mut [u8],
+    table: &Table,
 ) -> Totals
-    requires { ⌜ (length (now document) ≤ 32768) × (length (now document) < 2 * length (now left)) ⌝ }
+    requires { ⌜ (length (now document) ≤ 32768) × (length (now document) < 2 * length (now left)) × (now table ≡ rows) ⌝ }
     ensures { λ r. ⌜ Totalled (now (document .entry)) (length (now (store .entry))) (length (now (work .entry))) (now (draft .exit)) (now (left .exit)) r ⌝ }
 {
     let mut from: usize = 0;
@@ -60,7 +64,7 @@ pub fn draft_page(
     let mut refused: usize = 0;
     loop {
         let e = next_break(document, from);
-        at = draft_paragraph(&document[from..e], store, work, draft, at, left, k);
+        at = draft_paragraph(&document[from..e], store, work, draft, at, left, k, table);
         refused += wide(left[k]);
         k += 1;
         if e == document.len() {

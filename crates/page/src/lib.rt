@@ -7,6 +7,7 @@ use crate::draft::draft_page;
 use crate::write::write_page;
 use error::Refusal;
 use text::put::put;
+use token::table::table;
 ghost use Prim.Native.Nat.{_*_, _≤_, _<_};
 ghost use lib.ListN.{length};
 ghost use Rattle.page.specs.Run.{Pages};
@@ -36,7 +37,8 @@ fn page_in(
     requires { ⌜ (length (now document) ≤ 32768) × (length (now document) < 2 * length (now left)) ⌝ }
     ensures { λ r. ⌜ Pages (now (document .entry)) (length (now (store .entry))) (length (now (work .entry))) r (now (out .entry)) (now (out .exit)) ⌝ }
 {
-    let totals = draft_page(document, store, work, draft, left);
+    let commands = table();
+    let totals = draft_page(document, store, work, draft, left, &commands);
     let n = totals.length;
     if out.len() < n {
         return PageAnswer::Refused(Refusal::OutputTooSmall);
@@ -45,7 +47,7 @@ fn page_in(
         put(&draft[..n], out, 0, true);
         return PageAnswer::Accepted(n, totals.paragraphs, totals.left);
     }
-    write_page(document, store, work, out, left);
+    write_page(document, store, work, out, left, &commands);
     PageAnswer::Accepted(n, totals.paragraphs, totals.left)
 }
 

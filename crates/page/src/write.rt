@@ -3,10 +3,12 @@ use crate::breaks::break_end;
 use crate::breaks::next_break;
 use latex2mathml::replace::write_replacement;
 use text::put::put;
+use token::table::Table;
 ghost use mathlib.Core.Path.{_≡_};
 ghost use mathlib.Core.Bool.{true};
 ghost use lib.ListN.{length};
 ghost use Rattle.text.specs.Put.{Room, Puts};
+ghost use Rattle.token.specs.Key.{rows};
 ghost use Rattle.page.specs.Pieces.{pieces};
 ghost use Rattle.page.specs.Page.{shown, left, shownAll};
 ghost use Rattle.page.specs.Marks.{Marked};
@@ -19,12 +21,13 @@ fn write_paragraph(
     out: &mut [u8],
     at: usize,
     mark: u8,
+    table: &Table,
 ) -> usize
-    requires { ⌜ (mark ≡ left (length (now store)) (length (now work)) (now p)) × Room true (now out) at (length (shown (length (now store)) (length (now work)) (now p))) ⌝ }
+    requires { ⌜ (mark ≡ left (length (now store)) (length (now work)) (now p)) × Room true (now out) at (length (shown (length (now store)) (length (now work)) (now p))) × (now table ≡ rows) ⌝ }
     ensures { λ r. ⌜ Puts true (now (out .entry)) (now (out .exit)) at (shown (length (now (store .entry))) (length (now (work .entry))) (now (p .entry))) r ⌝ }
 {
     if mark == 0 {
-        return write_replacement(p, store, work, out, at);
+        return write_replacement(p, store, work, out, at, table);
     }
     put(p, out, at, true)
 }
@@ -36,8 +39,9 @@ pub fn write_page(
     work: &mut [u8],
     out: &mut [u8],
     left: &[u8],
+    table: &Table,
 ) -> usize
-    requires { ⌜ Marked (now document) (length (now store)) (length (now work)) (now left) × Room true (now out) 0 (length (shownAll (length (now store)) (length (now work)) (pieces (now document)))) ⌝ }
+    requires { ⌜ Marked (now document) (length (now store)) (length (now work)) (now left) × Room true (now out) 0 (length (shownAll (length (now store)) (length (now work)) (pieces (now document)))) × (now table ≡ rows) ⌝ }
     ensures { λ r. ⌜ Puts true (now (out .entry)) (now (out .exit)) 0 (shownAll (length (now (store .entry))) (length (now (work .entry))) (pieces (now (document .entry)))) r ⌝ }
 {
     let mut from: usize = 0;
@@ -45,7 +49,7 @@ pub fn write_page(
     let mut k: usize = 0;
     loop {
         let e = next_break(document, from);
-        at = write_paragraph(&document[from..e], store, work, out, at, left[k]);
+        at = write_paragraph(&document[from..e], store, work, out, at, left[k], table);
         if e == document.len() {
             return at;
         }

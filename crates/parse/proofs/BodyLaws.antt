@@ -7,6 +7,7 @@ use Prim.Native.Nat.{ℕ, zero, suc, _+_, _-_, _*_, _/_, _≤_, _<_}
 use native.Mathlib.Omega.{arith}
 use lib.ListN.{length}
 use borrow.Author.Tests.{lt-ltb, le-ltb}
+use Rattle.token.specs.Key.{rows}
 use Rattle.error.specs.declared.Refusal.{Refusal}
 use Rattle.token.specs.declared.Mark.{Mark}
 use Rattle.ast.specs.Tree.{Node, Nodes, snoc}
@@ -48,17 +49,17 @@ module _ (node : Reads) (s : List ℕ) where
 -- ---- the loop
 
 -- what holds on the way through the body s
-abbrev pub BodyLoop : ℕ → List ℕ → List ℕ → List ℕ → Parser → ℕ → ℕ → ℕ → Type 0
-BodyLoop depth s st₀ st q first last n = Loops s (λ k p ns. nodesUpTo (λ x. parseNode depth s x) s k p ns) (new s) st₀ st q first last n
+abbrev pub BodyLoop : ℕ → List ℕ → List ℕ → List ℕ → List ℕ → Parser → ℕ → ℕ → ℕ → Type 0
+BodyLoop depth tab s st₀ st q first last n = Loops tab s (λ k p ns. nodesUpTo (λ x. parseNode depth s x) s k p ns) (new s) st₀ st q first last n
 
 -- two records for each byte suffice
-pub body-none : (depth : ℕ) (s st : List ℕ) (q : Parser) → length s ≤ 4096 → 2 * length s * 24 ≤ length st → q ≡ new s → BodyLoop depth s st st q 0 0 0
-body-none depth s st q short lent is =
+pub body-none : (depth : ℕ) (tab s st : List ℕ) (q : Parser) → tab ≡ rows → length s ≤ 4096 → 2 * length s * 24 ≤ length st → q ≡ new s → BodyLoop depth tab s st st q 0 0 0
+body-none depth tab s st q table short lent is =
     let none-made = new-made s in
-    let start : Starts s st (2 * length s) (new s) 0 = record { sound = new-sound s; room = omega arith; lent = lent; small = omega arith; long = omega arith } in
+    let start : Starts tab s st (2 * length s) (new s) 0 = record { sound = new-sound s; room = omega arith; lent = lent; small = omega arith; long = omega arith; table = table } in
     rw is (loops-none start)
 
-module _ (depth : ℕ) (s : List ℕ) {st₀ st : List ℕ} {q : Parser} {first last n : ℕ} (g : BodyLoop depth s st₀ st q first last n) where
+module _ {tab : List ℕ} (depth : ℕ) (s : List ℕ) {st₀ st : List ℕ} {q : Parser} {first last n : ℕ} (g : BodyLoop depth tab s st₀ st q first last n) where
   -- the nodes stand in the store where the body ends
   pub body-end : curIs q Mark.EOF ≡ true → BodyAnswers s st (parse depth s) (ParsedNodes.Nodes first n (q .made))
   unfolding parse
@@ -91,7 +92,7 @@ module _ (depth : ℕ) (s : List ℕ) {st₀ st : List ℕ} {q : Parser} {first 
   -- one node more
   pub body-turns : (e : curIs q Mark.EOF ≡ false) {st₁ : List ℕ} → length st₁ ≡ length st → {i : ℕ} {r : Parser} → Built st st₁ (q .made) q (parseNode depth s q) i r
       → (st₂ : List ℕ) (first′ : ℕ) (r′ : Parser) → length st₂ ≡ length st₁ → Appends st₁ st₂ first last n i first′ → r′ ≡ next s r
-      → BodyLoop depth s st₀ st₂ r′ first′ i (n + 1)
+      → BodyLoop depth tab s st₀ st₂ r′ first′ i (n + 1)
   body-turns e len b st₂ first′ r′ len₂ ap₂ step =
       more-turns g (node-keeps depth s) e len b st₂ first′ r′ len₂ ap₂ step
       (turn-more (λ x. parseNode depth s x) s (g .fuel) q (g .ns) (g .spare .sound) (g .enough) e (b .is))

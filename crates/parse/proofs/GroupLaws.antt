@@ -50,10 +50,10 @@ module _ (node : Reads) (s : List ℕ) (end : Mark) where
 -- ---- the loop
 
 -- what holds on the way through a group
-abbrev pub GroupLoop : List ℕ → Reads → Mark → Parser → List ℕ → List ℕ → Parser → ℕ → ℕ → ℕ → Type 0
-GroupLoop s node end q₀ st₀ st q first last n = Loops s (λ k p ns. groupUpTo node s end k p ns) q₀ st₀ st q first last n
+abbrev pub GroupLoop : List ℕ → List ℕ → Reads → Mark → Parser → List ℕ → List ℕ → Parser → ℕ → ℕ → ℕ → Type 0
+GroupLoop tab s node end q₀ st₀ st q first last n = Loops tab s (λ k p ns. groupUpTo node s end k p ns) q₀ st₀ st q first last n
 
-module _ (node : Reads) (s : List ℕ) (end : Mark) {q₀ : Parser} {st₀ st : List ℕ} {q : Parser} {first last n : ℕ} (g : GroupLoop s node end q₀ st₀ st q first last n) where
+module _ {tab : List ℕ} (node : Reads) (s : List ℕ) (end : Mark) {q₀ : Parser} {st₀ st : List ℕ} {q : Parser} {first last n : ℕ} (g : GroupLoop tab s node end q₀ st₀ st q first last n) where
   pub group-end : (p : Parser) (want : Parsed Node) → curIs q Mark.EOF ≡ true → want ≡ groupUpTo node s end (suc (length s)) q₀ empty → want ≡ refused Refusal.UnexpectedToken
   group-end p want e is = is ∙ g .is ∙ turn-end node s end (g .fuel) q (g .ns) e
 
@@ -70,6 +70,6 @@ module _ (node : Reads) (s : List ℕ) (end : Mark) {q₀ : Parser} {st₀ st : 
   -- one node more
   pub group-turns : Keeps s node → (e : curIs q Mark.EOF ≡ false) {st₁ : List ℕ} → length st₁ ≡ length st → {i : ℕ} {r : Parser} → Built st st₁ (q .made) q (node q) i r
       → (st₂ : List ℕ) (first′ : ℕ) (r′ : Parser) → length st₂ ≡ length st₁ → curIs q end ≡ false → Appends st₁ st₂ first last n i first′ → r′ ≡ next s r
-      → GroupLoop s node end q₀ st₀ st₂ r′ first′ i (n + 1)
+      → GroupLoop tab s node end q₀ st₀ st₂ r′ first′ i (n + 1)
   group-turns keeps e len b st₂ first′ r′ len₂ f ap₂ step =
       more-turns g keeps e len b st₂ first′ r′ len₂ ap₂ step (turn-more node s end (g .fuel) q (g .ns) (g .spare .sound) (g .enough) e f (b .is))

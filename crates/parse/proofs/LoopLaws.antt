@@ -56,14 +56,14 @@ abbrev pub Rest : Type 0 → Type 0
 Rest A = ℕ → Parser → Nodes → Parsed A
 
 -- on the way: of the nodes from q₀ on, n are read, and stand from `first` to `last`
-pub record Loops {A : Type 0} (s : List ℕ) (rest : Rest A) (q₀ : Parser) (st₀ st : List ℕ) (q : Parser) (first last n : ℕ) : Type 0 where
+pub record Loops {A : Type 0} (tab s : List ℕ) (rest : Rest A) (q₀ : Parser) (st₀ st : List ℕ) (q : Parser) (first last n : ℕ) : Type 0 where
   pub ns : Nodes
   pub before : ℕ
   pub fuel : ℕ
   pub cap : ℕ
   pub is : rest (suc (length s)) q₀ empty ≡ rest fuel q ns
   pub enough : length s < q .cur .start + fuel
-  pub spare : Starts s st cap q 0
+  pub spare : Starts tab s st cap q 0
   pub held : holdsAll st (q₀ .made) first before last (q .made) ns
   pub many : n ≡ count ns
   pub small : first < 65536
@@ -71,9 +71,9 @@ pub record Loops {A : Type 0} (s : List ℕ) (rest : Rest A) (q₀ : Parser) (st
   pub kept : Stay st₀ st q₀
 
 -- before the first node
-pub loops-none : {A : Type 0} {s : List ℕ} {rest : Rest A} {q₀ : Parser} {st : List ℕ} {cap : ℕ} → Starts s st cap q₀ 0 → Loops s rest q₀ st st q₀ 0 0 0
+pub loops-none : {A : Type 0} {tab s : List ℕ} {rest : Rest A} {q₀ : Parser} {st : List ℕ} {cap : ℕ} → Starts tab s st cap q₀ 0 → Loops tab s rest q₀ st st q₀ 0 0 0
 unfolding count
-loops-none {A} {s} {rest} {q₀} {st} {cap} h = record {
+loops-none {A} {tab} {s} {rest} {q₀} {st} {cap} h = record {
   ns = empty;
   before = 0;
   fuel = suc (length s);
@@ -88,7 +88,7 @@ loops-none {A} {s} {rest} {q₀} {st} {cap} h = record {
   kept = λ j lt. refl;
 }
 
-module _ {A : Type 0} {s : List ℕ} {rest : Rest A} {q₀ : Parser} {st₀ st : List ℕ} {q : Parser} {first last n : ℕ} (g : Loops s rest q₀ st₀ st q first last n) where
+module _ {A : Type 0} {tab s : List ℕ} {rest : Rest A} {q₀ : Parser} {st₀ st : List ℕ} {q : Parser} {first last n : ℕ} (g : Loops tab s rest q₀ st₀ st q first last n) where
   -- a token that is not the end has a byte
   pub loops-wide : curIs q Mark.EOF ≡ false → q .cur .start < q .cur .end
   loops-wide e =
@@ -96,7 +96,7 @@ module _ {A : Type 0} {s : List ℕ} {rest : Rest A} {q₀ : Parser} {st₀ st :
       let w = g .spare .sound .cur .wide in
       omega arith
 
-  pub loops-ready : curIs q Mark.EOF ≡ false → Ready s st q
+  pub loops-ready : curIs q Mark.EOF ≡ false → Ready tab s st q
   loops-ready e = wide-ready (g .spare) (loops-wide e)
 
   pub loops-few : n ≤ q .made
@@ -117,7 +117,7 @@ module _ {A : Type 0} {s : List ℕ} {rest : Rest A} {q₀ : Parser} {st₀ st :
 
   -- ---- one node more
   module _ {node : Reads} (keeps : Keeps s node) (e : curIs q Mark.EOF ≡ false) {st₁ : List ℕ} (len : length st₁ ≡ length st) {i : ℕ} {r : Parser} (b : Built st st₁ (q .made) q (node q) i r) where
-    pub more-ends : Ends s st₁ (g .cap) r 0
+    pub more-ends : Ends tab s st₁ (g .cap) r 0
     more-ends = wide-ends len (g .spare) (loops-wide e) keeps b
 
     more-low : q .made ≤ i
@@ -143,7 +143,7 @@ module _ {A : Type 0} {s : List ℕ} {rest : Rest A} {q₀ : Parser} {st₀ st :
         omega arith
 
     pub more-turns : (st₂ : List ℕ) (first′ : ℕ) (r′ : Parser) → length st₂ ≡ length st₁ → Appends st₁ st₂ first last n i first′ → r′ ≡ next s r
-        → rest (g .fuel) q (g .ns) ≡ rest (g .fuel - 1) (next s r) (snoc (g .ns) (b .tree)) → Loops s rest q₀ st₀ st₂ r′ first′ i (n + 1)
+        → rest (g .fuel) q (g .ns) ≡ rest (g .fuel - 1) (next s r) (snoc (g .ns) (b .tree)) → Loops tab s rest q₀ st₀ st₂ r′ first′ i (n + 1)
     unfolding next
     more-turns st₂ first′ r′ len₂ ap₂ step turn =
         let a = more-low in
@@ -157,7 +157,7 @@ module _ {A : Type 0} {s : List ℕ} {rest : Rest A} {q₀ : Parser} {st₀ st :
         let old : holdsAll st₁ (q₀ .made) first (g .before) last (q .made) (g .ns) = frame-all st st₁ (q₀ .made) first (g .before) last (q .made) (g .ns) (λ j x y. b .kept j y) (g .held) in
         let new : holdsAll st₂ (q₀ .made) first′ (g .before) i (r .made) (snoc (g .ns) (b .tree)) = ap₂ .linked (q₀ .made) (g .before) (q .made) (r .made) (g .ns) (b .tree) old (g .many) (b .held) d in
         let below = snoc-below st₂ (q₀ .made) first′ (g .before) i (r .made) (g .ns) (b .tree) new in
-        let start : Starts s st₂ (g .cap) (next s r) 0 = ends-next (record { sound = h .sound; room = h .room; lent = omega arith; small = h .small; long = h .long }) refl in
+        let start : Starts tab s st₂ (g .cap) (next s r) 0 = ends-next (record { sound = h .sound; room = h .room; lent = omega arith; small = h .small; long = h .long; table = h .table }) refl in
         rw step
         (record {
           ns = snoc (g .ns) (b .tree);

@@ -9,6 +9,7 @@ use lib.Dec.{lit≤}
 use lib.ListN.{length}
 use Rattle.token.specs.declared.Token.{Token}
 use Rattle.token.specs.declared.Mark.{Mark}
+use Rattle.token.specs.Key.{rows}
 use Rattle.token.specs.Roles.{markNumber, tokenIs, letterOf}
 use Rattle.ast.specs.Tree.{Node}
 use Rattle.parser.specs.declared.Parser.{Parser}
@@ -23,7 +24,8 @@ use Rattle.parser.proofs.ArmLaws.{bare-kept}
 use Rattle.parser.proofs.BodyLaws.{node-keeps, single-keeps}
 
 -- of `cap` records that are lent, k more than two for each byte from `at` on are left in the state p
-pub record Spare (s st : List ℕ) (cap : ℕ) (p : Parser) (at k : ℕ) : Type 0 where
+pub record Spare (tab s st : List ℕ) (cap : ℕ) (p : Parser) (at k : ℕ) : Type 0 where
+  pub table : tab ≡ rows
   pub sound : Sound s p
   pub room : p .made + 2 * length s + k ≤ cap + 2 * at
   pub lent : cap * 24 ≤ length st
@@ -31,50 +33,57 @@ pub record Spare (s st : List ℕ) (cap : ℕ) (p : Parser) (at k : ℕ) : Type 
   pub long : length s < 2 ^ 32
 
 -- .. before the current token, and behind it
-abbrev pub Starts : List ℕ → List ℕ → ℕ → Parser → ℕ → Type 0
-Starts s st cap p k = Spare s st cap p (p .cur .start) k
+abbrev pub Starts : List ℕ → List ℕ → List ℕ → ℕ → Parser → ℕ → Type 0
+Starts tab s st cap p k = Spare tab s st cap p (p .cur .start) k
 
-abbrev pub Ends : List ℕ → List ℕ → ℕ → Parser → ℕ → Type 0
-Ends s st cap p k = Spare s st cap p (p .cur .end) k
+abbrev pub Ends : List ℕ → List ℕ → List ℕ → ℕ → Parser → ℕ → Type 0
+Ends tab s st cap p k = Spare tab s st cap p (p .cur .end) k
 
-module _ {s st : List ℕ} where
+-- what `next_token` asks
+pub may-next : {tab s st : List ℕ} {cap at k : ℕ} {p : Parser} → Spare tab s st cap p at k → (p .peek .end ≤ length s) × (tab ≡ rows)
+may-next h = (h .sound .peek .inside, h .table)
+
+pub ready-next : {tab s st : List ℕ} {p : Parser} → Ready tab s st p → (p .peek .end ≤ length s) × (tab ≡ rows)
+ready-next r = (r .sound .peek .inside, r .table)
+
+module _ {tab s st : List ℕ} where
   -- one record to spare is enough for a node that is missing
-  pub starts-ready : {cap k : ℕ} {p : Parser} → Starts s st cap p k → 1 ≤ k → Ready s st p
+  pub starts-ready : {cap k : ℕ} {p : Parser} → Starts tab s st cap p k → 1 ≤ k → Ready tab s st p
   starts-ready {cap} {k} {p} h le =
       let i = idle-le (p .cur) in
-      record { sound = h .sound; cap = cap; room = omega (arith, h .room); lent = h .lent; small = h .small; long = h .long }
+      record { sound = h .sound; cap = cap; room = omega (arith, h .room); lent = h .lent; small = h .small; long = h .long; table = h .table }
 
   -- a node that is not missing needs none
-  pub wide-ready : {cap k : ℕ} {p : Parser} → Starts s st cap p k → p .cur .start < p .cur .end → Ready s st p
+  pub wide-ready : {cap k : ℕ} {p : Parser} → Starts tab s st cap p k → p .cur .start < p .cur .end → Ready tab s st p
   wide-ready {cap} {k} {p} h w =
       let i = idle-none (p .cur) w in
-      record { sound = h .sound; cap = cap; room = omega (arith, h .room); lent = h .lent; small = h .small; long = h .long }
+      record { sound = h .sound; cap = cap; room = omega (arith, h .room); lent = h .lent; small = h .small; long = h .long; table = h .table }
 
   -- a state that is ready has what the bytes of its token pay
-  pub ready-starts : {p : Parser} (r : Ready s st p) → Starts s st (r .cap) p 0
-  ready-starts r = record { sound = r .sound; room = omega (arith, r .room); lent = r .lent; small = r .small; long = r .long }
+  pub ready-starts : {p : Parser} (r : Ready tab s st p) → Starts tab s st (r .cap) p 0
+  ready-starts r = record { sound = r .sound; room = omega (arith, r .room); lent = r .lent; small = r .small; long = r .long; table = r .table }
 
-  pub ready-ends : {p : Parser} (r : Ready s st p) → p .cur .start + 3 ≤ p .cur .end → Ends s st (r .cap) p 6
-  ready-ends r w = record { sound = r .sound; room = omega (arith, r .room); lent = r .lent; small = r .small; long = r .long }
+  pub ready-ends : {p : Parser} (r : Ready tab s st p) → p .cur .start + 3 ≤ p .cur .end → Ends tab s st (r .cap) p 6
+  ready-ends r w = record { sound = r .sound; room = omega (arith, r .room); lent = r .lent; small = r .small; long = r .long; table = r .table }
 
-  pub starts-ends : {cap k : ℕ} {p : Parser} → Starts s st cap p k → Ends s st cap p k
+  pub starts-ends : {cap k : ℕ} {p : Parser} → Starts tab s st cap p k → Ends tab s st cap p k
   starts-ends {cap} {k} {p} h =
       let w = h .sound .cur .wide in
-      record { sound = h .sound; room = omega (arith, h .room); lent = h .lent; small = h .small; long = h .long }
+      record { sound = h .sound; room = omega (arith, h .room); lent = h .lent; small = h .small; long = h .long; table = h .table }
 
   -- the next token begins behind this one
-  pub ends-next : {cap k : ℕ} {p q : Parser} → Ends s st cap p k → q ≡ next s p → Starts s st cap q k
+  pub ends-next : {cap k : ℕ} {p q : Parser} → Ends tab s st cap p k → q ≡ next s p → Starts tab s st cap q k
   unfolding next
   ends-next {cap} {k} {p} {q} h e =
       let f = h .sound .peek .from in
-      rw e (record { sound = next-sound s p (h .sound); room = omega (arith, h .room); lent = h .lent; small = h .small; long = h .long })
+      rw e (record { sound = next-sound s p (h .sound); room = omega (arith, h .room); lent = h .lent; small = h .small; long = h .long; table = h .table })
 
-  pub starts-next : {cap k : ℕ} {p q : Parser} → Starts s st cap p k → q ≡ next s p → Starts s st cap q k
+  pub starts-next : {cap k : ℕ} {p q : Parser} → Starts tab s st cap p k → q ≡ next s p → Starts tab s st cap q k
   starts-next h e = ends-next (starts-ends h) e
 
   -- a mark that is passed pays two records
-  pub ends-mark : {cap k : ℕ} {p q r : Parser} (m : Mark) → Ends s st cap p k → peekIs p m ≡ true → 1 ≤ markNumber m → q ≡ next s p → r ≡ next s q
-      → Starts s st cap r (k + 2)
+  pub ends-mark : {cap k : ℕ} {p q r : Parser} (m : Mark) → Ends tab s st cap p k → peekIs p m ≡ true → 1 ≤ markNumber m → q ≡ next s p → r ≡ next s q
+      → Starts tab s st cap r (k + 2)
   unfolding next
   ends-mark {cap} {k} {p} {q} {r} m h is some-mark e f =
       let b = mark-byte (p .peek .token) m some-mark is in
@@ -82,10 +91,10 @@ module _ {s st : List ℕ} where
       let w = h .sound .peek .wide in
       let n = next-sound s p (h .sound) .peek .from in
       let two = next-sound s (next s p) (next-sound s p (h .sound)) in
-      rw (f, e) (record { sound = two; room = omega (arith, h .room); lent = h .lent; small = h .small; long = h .long })
+      rw (f, e) (record { sound = two; room = omega (arith, h .room); lent = h .lent; small = h .small; long = h .long; table = h .table })
 
   -- a text begins and ends behind the current token
-  pub starts-text : {cap k : ℕ} {p : Parser} {t : TextRead} → Starts s st cap p k → t ≡ parseText s p → Starts s st cap (t .after) k
+  pub starts-text : {cap k : ℕ} {p : Parser} {t : TextRead} → Starts tab s st cap p k → t ≡ parseText s p → Starts tab s st cap (t .after) k
   starts-text {cap} {k} {p} {t} h e =
       let x = text-sound s p (h .sound) in
       let w = h .sound .cur .wide in
@@ -93,10 +102,10 @@ module _ {s st : List ℕ} where
       let up = x .rises in
       let ends = x .ends in
       let same = x .same in
-      rw e (record { sound = x .sound; room = omega (arith, h .room); lent = h .lent; small = h .small; long = h .long })
+      rw e (record { sound = x .sound; room = omega (arith, h .room); lent = h .lent; small = h .small; long = h .long; table = h .table })
 
   -- so many records can be made
-  pub ends-free : {cap k : ℕ} {p : Parser} (n : ℕ) → Ends s st cap p k → n ≤ k → Free st p n
+  pub ends-free : {cap k : ℕ} {p : Parser} (n : ℕ) → Ends tab s st cap p k → n ≤ k → Free st p n
   ends-free n h le =
       let i = h .sound .cur .inside in
       let r = h .room in
@@ -104,34 +113,34 @@ module _ {s st : List ℕ} where
       let b = h .small in
       record { fits = omega arith; small = omega arith }
 
-  pub starts-free : {cap k : ℕ} {p : Parser} (n : ℕ) → Starts s st cap p k → n ≤ k → Free st p n
+  pub starts-free : {cap k : ℕ} {p : Parser} (n : ℕ) → Starts tab s st cap p k → n ≤ k → Free st p n
   starts-free n h le = ends-free n (starts-ends h) le
 
-module _ {s st st′ : List ℕ} (len : length st′ ≡ length st) where
+module _ {tab s st st′ : List ℕ} (len : length st′ ≡ length st) where
   -- a node that is read takes one record to spare at most
-  pub node-ends : {cap k : ℕ} {reads : Reads} {p q : Parser} {lo i : ℕ} (j : ℕ) → Starts s st cap p k → suc j ≤ k → Keeps s reads → Built st st′ lo p (reads p) i q → Ends s st′ cap q j
+  pub node-ends : {cap k : ℕ} {reads : Reads} {p q : Parser} {lo i : ℕ} (j : ℕ) → Starts tab s st cap p k → suc j ≤ k → Keeps s reads → Built st st′ lo p (reads p) i q → Ends tab s st′ cap q j
   node-ends {cap} {k} {reads} {p} {q} j h le keeps b =
       let kept = keeps p (b .tree) q (h .sound) (b .is) in
       let i = idle-le (p .cur) in
       let sp = kept .spent in
       let r = h .room in
       let l = h .lent in
-      record { sound = kept .sound; room = omega arith; lent = omega arith; small = h .small; long = h .long }
+      record { sound = kept .sound; room = omega arith; lent = omega arith; small = h .small; long = h .long; table = h .table }
 
   -- a node that is not missing takes none
-  pub wide-ends : {cap k : ℕ} {reads : Reads} {p q : Parser} {lo i : ℕ} → Starts s st cap p k → p .cur .start < p .cur .end → Keeps s reads → Built st st′ lo p (reads p) i q
-      → Ends s st′ cap q k
+  pub wide-ends : {cap k : ℕ} {reads : Reads} {p q : Parser} {lo i : ℕ} → Starts tab s st cap p k → p .cur .start < p .cur .end → Keeps s reads → Built st st′ lo p (reads p) i q
+      → Ends tab s st′ cap q k
   wide-ends {cap} {k} {reads} {p} {q} h w keeps b =
       let kept = keeps p (b .tree) q (h .sound) (b .is) in
       let i = idle-none (p .cur) w in
       let sp = kept .spent in
       let r = h .room in
       let l = h .lent in
-      record { sound = kept .sound; room = omega arith; lent = omega arith; small = h .small; long = h .long }
+      record { sound = kept .sound; room = omega arith; lent = omega arith; small = h .small; long = h .long; table = h .table }
 
   -- a group pays for itself
-  pub group-ends : {cap k : ℕ} {node : Reads} {p q : Parser} {lo i : ℕ} (end : Mark) → Starts s st cap p k → Keeps s node → 1 ≤ markNumber end → Built st st′ lo p (parseGroup node s end p) i q
-      → Ends s st′ cap q k
+  pub group-ends : {cap k : ℕ} {node : Reads} {p q : Parser} {lo i : ℕ} (end : Mark) → Starts tab s st cap p k → Keeps s node → 1 ≤ markNumber end → Built st st′ lo p (parseGroup node s end p) i q
+      → Ends tab s st′ cap q k
   unfolding next
   group-ends {cap} {k} {node} {p} {q} end h keeps some-mark b =
       let g = group-kept keeps end some-mark p (b .tree) q (h .sound) (b .is) in
@@ -140,19 +149,19 @@ module _ {s st st′ : List ℕ} (len : length st′ ≡ length st) where
       let sp = g .spent in
       let r = h .room in
       let l = h .lent in
-      record { sound = g .sound; room = omega arith; lent = omega arith; small = h .small; long = h .long }
+      record { sound = g .sound; room = omega arith; lent = omega arith; small = h .small; long = h .long; table = h .table }
 
   -- a node that is read from a state that is ready
-  pub ready-node : {reads : Reads} {p q : Parser} {lo i : ℕ} (r : Ready s st p) → Keeps s reads → Built st st′ lo p (reads p) i q → Ends s st′ (r .cap) q 0
+  pub ready-node : {reads : Reads} {p q : Parser} {lo i : ℕ} (r : Ready tab s st p) → Keeps s reads → Built st st′ lo p (reads p) i q → Ends tab s st′ (r .cap) q 0
   ready-node {reads} {p} {q} h keeps b =
       let kept = keeps p (b .tree) q (h .sound) (b .is) in
       let sp = kept .spent in
       let r = h .room in
       let l = h .lent in
-      record { sound = kept .sound; room = omega arith; lent = omega arith; small = h .small; long = h .long }
+      record { sound = kept .sound; room = omega arith; lent = omega arith; small = h .small; long = h .long; table = h .table }
 
 -- a state that is ready has a record for its token
-pub ready-free : {s st : List ℕ} {p : Parser} → Ready s st p → Free st p 1
+pub ready-free : {tab s st : List ℕ} {p : Parser} → Ready tab s st p → Free st p 1
 unfolding idle
 ready-free h =
     let w = h .sound .cur .wide in
@@ -163,9 +172,9 @@ ready-free h =
     record { fits = omega arith; small = omega arith }
 
 -- a prime pays for the two records that are made of it
-pub prime-free : {s st : List ℕ} {cap : ℕ} {q : Parser} → Ends s st cap q 0 → Primed st q
+pub prime-free : {tab s st : List ℕ} {cap : ℕ} {q : Parser} → Ends tab s st cap q 0 → Primed st q
 unfolding markNumber
-prime-free {s} {st} {cap} {q} h is =
+prime-free {tab} {s} {st} {cap} {q} h is =
     let b = mark-byte (q .peek .token) Mark.Prime (lit≤ tt) is in
     let f = h .sound .peek .from in
     let w = h .sound .peek .wide in

@@ -5,6 +5,7 @@ use mathlib.Core.Bool.{true}
 use mathlib.Core.List.{List}
 use Prim.Native.Nat.{ℕ, _+_, _*_, _^_, _≤_, _<_}
 use lib.ListN.{length}
+use Rattle.token.specs.Key.{rows}
 use Rattle.token.specs.declared.Mark.{Mark}
 use Rattle.ast.specs.declared.Record.{Record}
 use Rattle.ast.specs.declared.Fields.{Fields}
@@ -64,8 +65,9 @@ pub record Free (st : List ℕ) (p : Parser) (k : ℕ) : Type 0 where
   pub fits : (p .made + k) * 24 ≤ length st
   pub small : p .made + k ≤ 65536
 
--- `cap` records are lent, which suffice from the state p on
-pub record Ready (s st : List ℕ) (p : Parser) : Type 0 where
+-- the table is lent, and `cap` records, which suffice from the state p on
+pub record Ready (tab s st : List ℕ) (p : Parser) : Type 0 where
+  pub table : tab ≡ rows
   pub sound : Sound s p
   pub cap : ℕ
   pub room : p .made + 2 * length s + idle (p .cur) ≤ cap + 2 * p .cur .start

@@ -13,10 +13,12 @@ use lexer::reader::token_from;
 use token::Binomial;
 use token::Mark;
 use token::Token;
+use token::table::Table;
 ghost use mathlib.Core.Path.{_≡_};
 ghost use mathlib.Core.Bool.{_&&_};
 ghost use Prim.Native.Nat.{_≤_};
 ghost use lib.ListN.{length, drop};
+ghost use Rattle.token.specs.Key.{rows};
 ghost use Rattle.token.specs.Command.{actsOnADigit};
 ghost use Rattle.parser.specs.State.{startsWithDigit, following, next, new, curIs, peekIs, parseText, PastLetters};
 ghost use Rattle.parser.specs.Sound.{Sound};
@@ -89,8 +91,8 @@ fn takes_digit(t: Token, s: &[u8], at: usize) -> bool
 }
 
 // The token behind t, which ends at a place: a digit directly behind a token that acts on it is a number.
-fn following(t: Token, s: &[u8], at: usize) -> Lexeme
-    requires { ⌜ at ≤ length (now s) ⌝ }
+fn following(t: Token, s: &[u8], at: usize, table: &Table) -> Lexeme
+    requires { ⌜ (at ≤ length (now s)) × (now table ≡ rows) ⌝ }
     ensures { λ r. ⌜ r ≡ following t at (drop at (now (s .entry))) ⌝ }
 {
     if takes_digit(t, s, at) {
@@ -100,12 +102,12 @@ fn following(t: Token, s: &[u8], at: usize) -> Lexeme
             end: at + 1,
         };
     }
-    token_from(s, at)
+    token_from(s, at, table)
 }
 
 // The first token from a place on that is no letter. An ASCII letter is a token of one byte, and needs no lexer.
-fn past_letters(s: &[u8], from: usize) -> Lexeme
-    requires { ⌜ from ≤ length (now s) ⌝ }
+fn past_letters(s: &[u8], from: usize, table: &Table) -> Lexeme
+    requires { ⌜ (from ≤ length (now s)) × (now table ≡ rows) ⌝ }
     ensures { λ r. ⌜ PastLetters (now (s .entry)) from r × (r .end ≤ length (now (s .entry))) ⌝ }
 {
     let mut at = from;
@@ -116,7 +118,7 @@ fn past_letters(s: &[u8], from: usize) -> Lexeme
                 continue;
             }
         }
-        let l = token_from(s, at);
+        let l = token_from(s, at, table);
         let token = l.token;
         match token {
             Token::Letter(_, _) => {
@@ -129,7 +131,8 @@ fn past_letters(s: &[u8], from: usize) -> Lexeme
 
 impl Parser {
     // The state before the first token of a body.
-    pub fn new(s: &[u8]) -> Parser
+    pub fn new(s: &[u8], table: &Table) -> Parser
+        requires { ⌜ now table ≡ rows ⌝ }
         ensures { λ r. ⌜ r ≡ new (now (s .entry)) ⌝ }
     {
         let nothing = Lexeme {
@@ -142,18 +145,18 @@ impl Parser {
             peek: nothing,
             made: 0,
         };
-        let q = p.next_token(s);
-        q.next_token(s)
+        let q = p.next_token(s, table);
+        q.next_token(s, table)
     }
 
     // Moves on by one token: the lexer reads from the end of `peek`.
-    pub fn next_token(self, s: &[u8]) -> Parser
-        requires { ⌜ self .peek .end ≤ length (now s) ⌝ }
+    pub fn next_token(self, s: &[u8], table: &Table) -> Parser
+        requires { ⌜ (self .peek .end ≤ length (now s)) × (now table ≡ rows) ⌝ }
         ensures { λ r. ⌜ r ≡ next (now (s .entry)) self ⌝ }
     {
         let cur = self.peek;
         let token = cur.token;
-        let peek = following(token, s, cur.end);
+        let peek = following(token, s, cur.end, table);
         Parser {
             cur: cur,
             peek: peek,
@@ -180,17 +183,17 @@ impl Parser {
     }
 
     // Passes the current token unseen, and reads the letters behind it.
-    pub fn parse_text(self, s: &[u8]) -> TextRead
-        requires { ⌜ Sound (now s) self ⌝ }
+    pub fn parse_text(self, s: &[u8], table: &Table) -> TextRead
+        requires { ⌜ Sound (now s) self × (now table ≡ rows) ⌝ }
         ensures { λ r. ⌜ r ≡ parseText (now (s .entry)) self ⌝ }
     {
         let begin = self.peek;
         let token = begin.token;
         match token {
             Token::Letter(_, _) => {
-                let last = past_letters(s, begin.end);
+                let last = past_letters(s, begin.end, table);
                 let behind = last.token;
-                let peek = following(behind, s, last.end);
+                let peek = following(behind, s, last.end, table);
                 TextRead {
                     a: begin.start,
                     e: last.start,
@@ -204,7 +207,7 @@ impl Parser {
             _ => TextRead {
                 a: begin.start,
                 e: begin.start,
-                after: self.next_token(s),
+                after: self.next_token(s, table),
             },
         }
     }

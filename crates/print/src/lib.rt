@@ -18,11 +18,13 @@ use markup::fronts::put_front_three;
 use markup::fronts::put_front_two;
 use markup::leaf::put_leaf;
 use text::put::put;
+use token::table::Table;
 ghost use mathlib.Core.Path.{_≡_};
 ghost use mathlib.Core.List.{_++_};
 ghost use lib.ListN.{length};
 ghost use Rattle.text.specs.Text.{bytes};
 ghost use Rattle.text.specs.Put.{Room, Puts};
+ghost use Rattle.token.specs.Key.{rows};
 ghost use Rattle.attribute.specs.Names.{columnAlign};
 ghost use Rattle.ast.specs.Tree.{Node};
 ghost use Rattle.markup.specs.Print.{print};
@@ -62,18 +64,30 @@ pub fn print_node(
     out: &mut [u8],
     at: usize,
     write: bool,
+    table: &Table,
 ) -> usize
-    requires { ⌜ Printable (TreeAt (now s) (now store) left i) (shown place (now s)) write (now out) at ⌝ }
+    requires { ⌜ Printable (TreeAt (now s) (now store) left i) (shown place (now s)) write (now out) at × (now table ≡ rows) ⌝ }
     ensures { λ r. ⌜ Prints (TreeAt (now (s .entry)) (now (store .entry)) left i) (shown place (now (s .entry))) write (now (out .entry)) (now (out .exit)) at r ⌝ }
 {
     let r = get_record(store, i);
     match shape_of(r) {
-        Shape::Leaf(l) => put_leaf(place, s, l, out, at, write),
-        Shape::One(k) => print_one(k, s, store, r.a, left - 1, out, at, write),
-        Shape::Two(k) => print_two(k, s, store, r.a, r.b, left - 1, out, at, write),
-        Shape::Three(k) => print_three(k, s, store, r.a, r.b, r.c, left - 1, out, at, write),
-        Shape::Row(n) => print_row(s, store, r.a, n, left - 1, out, at, write),
-        Shape::Matrix(align, n) => print_matrix(align, s, store, r.a, n, left - 1, out, at, write),
+        Shape::Leaf(l) => put_leaf(place, s, l, out, at, write, table),
+        Shape::One(k) => print_one(k, s, store, r.a, left - 1, out, at, write, table),
+        Shape::Two(k) => print_two(k, s, store, r.a, r.b, left - 1, out, at, write, table),
+        Shape::Three(k) => print_three(k, s, store, r.a, r.b, r.c, left - 1, out, at, write, table),
+        Shape::Row(n) => print_row(s, store, r.a, n, left - 1, out, at, write, table),
+        Shape::Matrix(align, n) => print_matrix(
+            align,
+            s,
+            store,
+            r.a,
+            n,
+            left - 1,
+            out,
+            at,
+            write,
+            table,
+        ),
     }
 }
 
@@ -87,12 +101,13 @@ fn print_one(
     out: &mut [u8],
     at: usize,
     write: bool,
+    table: &Table,
 ) -> usize
-    requires { ⌜ Printable (TreeAt (now s) (now store) left a) (λ t. print (now s) (Node.one k t)) write (now out) at ⌝ }
+    requires { ⌜ Printable (TreeAt (now s) (now store) left a) (λ t. print (now s) (Node.one k t)) write (now out) at × (now table ≡ rows) ⌝ }
     ensures { λ r. ⌜ Prints (TreeAt (now (s .entry)) (now (store .entry)) left a) (λ t. print (now (s .entry)) (Node.one k t)) write (now (out .entry)) (now (out .exit)) at r ⌝ }
 {
     let first = put_front_one(k, out, at, write);
-    let end = print_node(place_of(k), s, store, a, left, out, first, write);
+    let end = print_node(place_of(k), s, store, a, left, out, first, write, table);
     put_back_one(k, out, end, write)
 }
 
@@ -107,13 +122,14 @@ fn print_two(
     out: &mut [u8],
     at: usize,
     write: bool,
+    table: &Table,
 ) -> usize
-    requires { ⌜ Printable (TwoAt (now s) (now store) left a b) (λ t. print (now s) (Node.two k (t .0) (t .1))) write (now out) at ⌝ }
+    requires { ⌜ Printable (TwoAt (now s) (now store) left a b) (λ t. print (now s) (Node.two k (t .0) (t .1))) write (now out) at × (now table ≡ rows) ⌝ }
     ensures { λ r. ⌜ Prints (TwoAt (now (s .entry)) (now (store .entry)) left a b) (λ t. print (now (s .entry)) (Node.two k (t .0) (t .1))) write (now (out .entry)) (now (out .exit)) at r ⌝ }
 {
     let first = put_front_two(k, out, at, write);
-    let second = print_node(Place::Plain, s, store, a, left, out, first, write);
-    let end = print_node(Place::Plain, s, store, b, left, out, second, write);
+    let second = print_node(Place::Plain, s, store, a, left, out, first, write, table);
+    let end = print_node(Place::Plain, s, store, b, left, out, second, write, table);
     put_back_two(k, out, end, write)
 }
 
@@ -129,14 +145,15 @@ fn print_three(
     out: &mut [u8],
     at: usize,
     write: bool,
+    table: &Table,
 ) -> usize
-    requires { ⌜ Printable (ThreeAt (now s) (now store) left a b c) (λ t. print (now s) (Node.three k (t .0) (t .1 .0) (t .1 .1))) write (now out) at ⌝ }
+    requires { ⌜ Printable (ThreeAt (now s) (now store) left a b c) (λ t. print (now s) (Node.three k (t .0) (t .1 .0) (t .1 .1))) write (now out) at × (now table ≡ rows) ⌝ }
     ensures { λ r. ⌜ Prints (ThreeAt (now (s .entry)) (now (store .entry)) left a b c) (λ t. print (now (s .entry)) (Node.three k (t .0) (t .1 .0) (t .1 .1))) write (now (out .entry)) (now (out .exit)) at r ⌝ }
 {
     let first = put_front_three(k, out, at, write);
-    let second = print_node(Place::Plain, s, store, a, left, out, first, write);
-    let third = print_node(Place::Plain, s, store, b, left, out, second, write);
-    let end = print_node(Place::Plain, s, store, c, left, out, third, write);
+    let second = print_node(Place::Plain, s, store, a, left, out, first, write, table);
+    let third = print_node(Place::Plain, s, store, b, left, out, second, write, table);
+    let end = print_node(Place::Plain, s, store, c, left, out, third, write, table);
     put_back_three(k, out, end, write)
 }
 
@@ -150,12 +167,13 @@ fn print_row(
     out: &mut [u8],
     at: usize,
     write: bool,
+    table: &Table,
 ) -> usize
-    requires { ⌜ Printable (NodesAt (now s) (now store) left a n) (λ ns. print (now s) (Node.row ns)) write (now out) at ⌝ }
+    requires { ⌜ Printable (NodesAt (now s) (now store) left a n) (λ ns. print (now s) (Node.row ns)) write (now out) at × (now table ≡ rows) ⌝ }
     ensures { λ r. ⌜ Prints (NodesAt (now (s .entry)) (now (store .entry)) left a n) (λ ns. print (now (s .entry)) (Node.row ns)) write (now (out .entry)) (now (out .exit)) at r ⌝ }
 {
     let first = put(b"<mrow>", out, at, write);
-    let end = print_nodes(Place::Plain, s, store, a, n, left, out, first, write);
+    let end = print_nodes(Place::Plain, s, store, a, n, left, out, first, write, table);
     put(b"</mrow>", out, end, write)
 }
 
@@ -170,12 +188,13 @@ fn print_matrix(
     out: &mut [u8],
     at: usize,
     write: bool,
+    table: &Table,
 ) -> usize
-    requires { ⌜ Printable (NodesAt (now s) (now store) left a n) (λ ns. print (now s) (Node.matrix align ns)) write (now out) at ⌝ }
+    requires { ⌜ Printable (NodesAt (now s) (now store) left a n) (λ ns. print (now s) (Node.matrix align ns)) write (now out) at × (now table ≡ rows) ⌝ }
     ensures { λ r. ⌜ Prints (NodesAt (now (s .entry)) (now (store .entry)) left a n) (λ ns. print (now (s .entry)) (Node.matrix align ns)) write (now (out .entry)) (now (out .exit)) at r ⌝ }
 {
     let first = put_front_matrix(align, out, at, write);
-    let end = print_nodes(Place::Cell, s, store, a, n, left, out, first, write);
+    let end = print_nodes(Place::Cell, s, store, a, n, left, out, first, write, table);
     put(b"</mtd></mtr></mtable>", out, end, write)
 }
 
@@ -190,15 +209,16 @@ pub fn print_nodes(
     out: &mut [u8],
     at: usize,
     write: bool,
+    table: &Table,
 ) -> usize
-    requires { ⌜ Printable (NodesAt (now s) (now store) left a n) (shownAll place (now s)) write (now out) at ⌝ }
+    requires { ⌜ Printable (NodesAt (now s) (now store) left a n) (shownAll place (now s)) write (now out) at × (now table ≡ rows) ⌝ }
     ensures { λ r. ⌜ Prints (NodesAt (now (s .entry)) (now (store .entry)) left a n) (shownAll place (now (s .entry))) write (now (out .entry)) (now (out .exit)) at r ⌝ }
 {
     let mut i = a;
     let mut todo = n;
     let mut end = at;
     while 0 < todo {
-        end = print_node(place, s, store, i, left, out, end, write);
+        end = print_node(place, s, store, i, left, out, end, write, table);
         i = get_next(store, i);
         todo -= 1;
     }

@@ -5,9 +5,9 @@ use mathlib.Core.Bool.{Bool, true, false, not}
 use mathlib.Core.List.{List, [], _∷_}
 use Prim.Native.Nat.{ℕ, zero, suc, _+_, _-_, _≤_, _<_}
 use native.Mathlib.Omega.{arith}
-use lib.Dec.{leb, ltb, eqb}
+use lib.Dec.{ltb, eqb}
 use lib.ListN.{length, getD}
-use borrow.Author.Tests.{leb-true, ltb-true, eqb-false, not-true}
+use borrow.Author.Tests.{ltb-true, eqb-false, not-true}
 use Rattle.token.specs.declared.Token.{Token}
 use Rattle.token.specs.declared.Ordering.{Ordering}
 use Rattle.token.specs.declared.Ordering.the-variants.{Less}
@@ -15,7 +15,8 @@ use Rattle.token.specs.Texts.{texts, text, widths, width}
 use Rattle.token.specs.Arms.{arms}
 use Rattle.token.specs.Command.{fromCommand}
 use Rattle.token.specs.Table.{size, entries}
-use Rattle.token.specs.Key.{nameAt, tokenAt, packed, wordOf, words, key, cmp, Place}
+use Rattle.token.specs.Code.{forms, tokenOf}
+use Rattle.token.specs.Key.{nameAt, tokenAt, packed, wordOf, wordsFrom, words, key, cmp}
 use Rattle.text.proofs.Cases.{both}
 use Rattle.text.proofs.Tabled.{tab, each}
 use Rattle.token.proofs.Spelled.{all-listed, first-none}
@@ -23,7 +24,7 @@ use Rattle.token.proofs.Packed.{Bytes, Name, same-name}
 
 -- ---- the order: each name is less than the next
 in-order : tab (λ i. cmp (key i) (key (i + 1))) (size - 1) ≡ tab (λ i. Less) (size - 1)
-unfolding key words wordOf packed nameAt entries
+unfolding key words wordsFrom wordOf packed nameAt entries
 in-order = refl
 
 pub rising : (i : ℕ) → i + 1 < size → cmp (key i) (key (i + 1)) ≡ Less
@@ -31,7 +32,7 @@ rising i h = each (λ i. cmp (key i) (key (i + 1))) (λ i. Less) (size - 1) in-o
 
 -- ---- the agreement: the arms give each name of the table the token of the table, and each arm's name is in the table
 agree : (other : Token) → tab (λ i. fromCommand (nameAt i) other) size ≡ tab tokenAt size
-unfolding nameAt tokenAt entries arms text width texts widths fromCommand
+unfolding nameAt tokenAt entries tokenOf forms arms text width texts widths fromCommand
 agree other = refl
 
 pub found : (other : Token) (i : ℕ) → i < size → fromCommand (nameAt i) other ≡ tokenAt i
@@ -45,7 +46,7 @@ pub absent : (s : List ℕ) (other : Token) → ((i : ℕ) → i < size → name
 unfolding fromCommand
 absent s other none = first-none nameAt size s other none arms covered
 
--- ---- each name is determined by its three numbers
+-- ---- each name is determined by its words
 abbrev small : List ℕ → Bool
 small [] = true
 small (b ∷ l) = elim (ltb b 256) [ true ↦ small l | false ↦ false ]
@@ -56,21 +57,12 @@ small-bytes (b ∷ l) e zero = ltb-true b 256 (both (ltb b 256) (small l) e .0)
 small-bytes (b ∷ l) e (suc i) = small-bytes l (both (ltb b 256) (small l) e .1) i
 
 abbrev isName : List ℕ → Bool
-isName l =
-    elim (small l) [
-      | true ↦ elim (leb (length l) 24) [ true ↦ not (eqb (getD l (length l - 1) 0) 0) | false ↦ false ]
-      | false ↦ false
-    ]
+isName l = elim (small l) [ true ↦ not (eqb (getD l (length l - 1) 0) 0) | false ↦ false ]
 
 is-name : (l : List ℕ) → isName l ≡ true → Name l
 is-name l e =
     let a = both (small l) _ e in
-    let b = both (leb (length l) 24) _ (a .1) in
-    record {
-      bytes = small-bytes l (a .0);
-      short = leb-true (length l) 24 (b .0);
-      ends = eqb-false _ 0 (not-true _ (b .1));
-    }
+    record { bytes = small-bytes l (a .0); ends = eqb-false _ 0 (not-true _ (a .1)) }
 
 all-names : tab (λ i. isName (nameAt i)) size ≡ tab (λ i. true) size
 unfolding nameAt entries
@@ -82,11 +74,11 @@ named i h = is-name (nameAt i) (each (λ i. isName (nameAt i)) (λ i. true) size
 pub unnamed : (s : List ℕ) (other : Token) → (Name s → ⊥) → fromCommand s other ≡ other
 unnamed s other f = absent s other (λ i h e. f (subst Name e (named i h)))
 
--- ---- the answer, by the place that the search gives
-pub at-place : (s : List ℕ) (other : Token) → Name s → (i : ℕ) → i < size → Place (words s) i → fromCommand s other ≡ tokenAt i
+-- ---- the answer, by the row that the search finds
+pub at-row : (s : List ℕ) (other : Token) → Name s → (i : ℕ) → i < size → key i ≡ words s → fromCommand s other ≡ tokenAt i
 unfolding key
-at-place s other name i h p = ap (λ n. fromCommand n other) (sym (same-name (nameAt i) s (named i h) name (p .found h))) ∙ found other i h
+at-row s other name i h is = ap (λ n. fromCommand n other) (sym (same-name (nameAt i) s (named i h) name is)) ∙ found other i h
 
-pub at-none : (s : List ℕ) (other : Token) (i : ℕ) → size ≤ i → Place (words s) i → fromCommand s other ≡ other
+pub at-none : (s : List ℕ) (other : Token) → ((i : ℕ) → i < size → key i ≡ words s → ⊥) → fromCommand s other ≡ other
 unfolding key
-at-none s other i h p = absent s other (λ j l e. p .none h j l (ap words e))
+at-none s other none = absent s other (λ i h e. none i h (ap words e))

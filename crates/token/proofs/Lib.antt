@@ -1,7 +1,9 @@
 pub mod Agree
+pub mod CompareLaws
 pub mod DebugLaws
 pub mod Ordered
 pub mod Packed
 pub mod PlainLaws
+pub mod RowLaws
 pub mod Spelled
 pub mod TextsLaws

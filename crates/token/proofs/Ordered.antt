@@ -96,11 +96,11 @@ module _ (key : ℕ → List ℕ) (n : ℕ) (rising : (i : ℕ) → i + 1 < n �
       ∙ ap turned (cmp-chain s (key m) (key i) (cmp-turned (key m) s ∙ ap turned e) (key-less m i l′ k)))
       (λ g. let q : m ≡ i = omega arith in subst (λ (j : ℕ). cmp (key j) s ≡ Greater) q e)
 
-  -- where all before lo are less and all from hi on are greater, and the two have met, none is the name
-  pub none-between : (s : List ℕ) (lo hi : ℕ) → hi ≤ lo
-      → ((i : ℕ) → i < lo → cmp (key i) s ≡ Less)
-      → ((i : ℕ) → hi ≤ i → i < n → cmp (key i) s ≡ Greater)
+  -- where all that begin before lo are less and all that begin from hi on are greater, and the two have met, none is the name
+  pub none-between : (s : List ℕ) (start : ℕ → ℕ) (lo hi : ℕ) → hi ≤ lo
+      → ((i : ℕ) → i < n → start i < lo → cmp (key i) s ≡ Less)
+      → ((i : ℕ) → i < n → hi ≤ start i → cmp (key i) s ≡ Greater)
       → (i : ℕ) → i < n → key i ≡ s → ⊥
-  none-between s lo hi h less greater i l e =
+  none-between s start lo hi h less greater i l e =
       let same : cmp (key i) s ≡ Equal = ap (cmp (key i)) (sym e) ∙ cmp-refl (key i) in
-      by-order i lo (λ k. never (cc (less i k))) (λ k. never (cc (greater i (le-trans h k) l)))
+      by-order (start i) lo (λ k. never (cc (less i l k))) (λ k. never (cc (greater i l (le-trans h k))))

@@ -1,20 +1,22 @@
 // The tokens of LaTeX: the Rust's token.rs. A character is its code point, a string is the number of a fixed text, or the
 // place of its first byte in the body and the place after its last.
 pub mod debug;
-mod table;
+pub mod table;
 pub mod texts;
 
 use attribute::Accent;
 use attribute::DisplayStyle;
 use attribute::Variant;
+use table::LENGTH;
+use table::MARK;
+use table::Table;
+use table::token_of;
 ghost use mathlib.Core.Path.{_≡_};
-ghost use mathlib.Core.List.{[], _∷_};
-ghost use Prim.Native.Nat.{_≤_, _<_};
+ghost use Prim.Native.Nat.{ℕ, _+_, _*_, _^_, _≤_, _<_};
 ghost use lib.ListN.{length, getD, drop};
 ghost use Rattle.text.specs.Text.{part};
 ghost use Rattle.token.specs.Command.{fromCommand, actsOnADigit};
-ghost use Rattle.token.specs.Table.{size};
-ghost use Rattle.token.specs.Key.{wordOf, key, cmp, Place};
+ghost use Rattle.token.specs.Key.{wordOf, words, key, rows, cmp, Row, Has, Place};
 
 // The Rust's `Option<DisplayStyle>`.
 pub enum Binomial {
@@ -108,98 +110,122 @@ impl Token {
 }
 
 // The byte k of s[a..e], and 0 past its end.
-fn byte_of(s: &[u8], a: usize, e: usize, k: usize) -> u64
-    requires { ⌜ (a ≤ e) × (e ≤ length (now s)) × (k < 24) ⌝ }
+fn byte_of(s: &[u8], a: usize, e: usize, k: usize) -> u32
+    requires { ⌜ (a ≤ e) × (e ≤ length (now s)) × (a + k < 2 ^ 64) ⌝ }
     ensures { λ r. ⌜ (r ≡ getD (part a e (now (s .entry))) k 0) × (r < 256) ⌝ }
 {
     let at = a + k;
-    if at < e { s[at] as u64 } else { 0 }
+    if at < e { s[at] as u32 } else { 0 }
 }
 
-// The eight bytes of s[a..e] from `from` on as a number, with zeros past its end.
-fn pack(s: &[u8], a: usize, e: usize, from: usize) -> u64
-    requires { ⌜ (a ≤ e) × (e ≤ length (now s)) × (from ≤ 16) ⌝ }
+// The four bytes of s[a..e] from `from` on as a number, with zeros past its end.
+fn pack(s: &[u8], a: usize, e: usize, from: usize) -> u32
+    requires { ⌜ (a + from ≤ e) × (e ≤ length (now s)) ⌝ }
     ensures { λ r. ⌜ r ≡ wordOf (drop from (part a e (now (s .entry)))) ⌝ }
 {
-    let mut word: u64 = 0;
+    let mut word: u32 = 0;
     let mut k: usize = 0;
-    while k < 8 {
+    while k < 4 {
         word = word * 256 + byte_of(s, a, e, from + k);
         k += 1;
     }
     word
 }
 
-// How the table's name at i compares with the name of three words.
-fn compare(i: usize, first: u64, second: u64, third: u64) -> Ordering
-    requires { ⌜ i < size ⌝ }
-    ensures { λ r. ⌜ r ≡ cmp (key i) (first ∷ second ∷ third ∷ []) ⌝ }
+// The word k of s[a..e]. Each step of the search asks for the first, so it is packed once.
+fn word(first: u32, s: &[u8], a: usize, e: usize, k: usize) -> u32
+    requires { ⌜ (a + 4 * k ≤ e) × (e ≤ length (now s)) × (first ≡ wordOf (part a e (now s))) ⌝ }
+    ensures { λ r. ⌜ r ≡ wordOf (drop (4 * k) (part a e (now (s .entry)))) ⌝ }
 {
-    let x = table::first_word(i);
-    if x < first {
-        return Ordering::Less;
+    if k == 0 {
+        return first;
     }
-    if first < x {
-        return Ordering::Greater;
-    }
-    let y = table::second_word(i);
-    if y < second {
-        return Ordering::Less;
-    }
-    if second < y {
-        return Ordering::Greater;
-    }
-    let z = table::third_word(i);
-    if z < third {
-        return Ordering::Less;
-    }
-    if third < z {
-        return Ordering::Greater;
-    }
-    Ordering::Equal
+    pack(s, a, e, 4 * k)
 }
 
-// The place of the name of three words in the table, by halves, or its size where it has none.
-fn search(first: u64, second: u64, third: u64) -> usize
-    ensures { λ r. ⌜ Place (first ∷ second ∷ third ∷ []) r ⌝ }
+// How the name of the row that begins at a place compares with s[a..e]. A name ends where its code stands.
+fn compare(at: usize, first: u32, s: &[u8], a: usize, e: usize, table: &Table) -> Ordering
+    requires { ⌜ ((i : ℕ) × Row at i) × (a ≤ e) × (e ≤ length (now s)) × (first ≡ wordOf (part a e (now s))) × (now table ≡ rows) ⌝ }
+    ensures { λ r. ⌜ ((i : ℕ) → Row at i → r ≡ cmp (key i) (words (part a e (now (s .entry))))) ⌝ }
 {
+    let n = (e - a + 3) / 4;
+    let mut k: usize = 0;
+    while k < n {
+        let x = table[at + k];
+        if MARK <= x {
+            return Ordering::Less;
+        }
+        let y = word(first, s, a, e, k);
+        if x < y {
+            return Ordering::Less;
+        }
+        if y < x {
+            return Ordering::Greater;
+        }
+        k += 1;
+    }
+    if MARK <= table[at + n] {
+        return Ordering::Equal;
+    }
+    Ordering::Greater
+}
+
+// Where the row begins that has the word at p: behind the code before it.
+fn row_of(p: usize, table: &Table) -> usize
+    requires { ⌜ (p < length rows) × (now table ≡ rows) ⌝ }
+    ensures { λ r. ⌜ ((i : ℕ) × Has p r i) ⌝ }
+{
+    let mut at = p;
+    while 0 < at {
+        if MARK <= table[at - 1] {
+            return at;
+        }
+        at -= 1;
+    }
+    at
+}
+
+// Where the row of the name s[a..e] begins, found by halves, or the table's length where no row has it.
+fn search(s: &[u8], a: usize, e: usize, table: &Table) -> usize
+    requires { ⌜ (a ≤ e) × (e ≤ length (now s)) × (now table ≡ rows) ⌝ }
+    ensures { λ r. ⌜ Place (words (part a e (now (s .entry)))) r ⌝ }
+{
+    let first = pack(s, a, e, 0);
     let mut lo: usize = 0;
-    let mut hi: usize = table::SIZE;
+    let mut hi: usize = LENGTH;
     while lo < hi {
         let mid = lo + (hi - lo) / 2;
-        match compare(mid, first, second, third) {
+        let at = row_of(mid, table);
+        match compare(at, first, s, a, e, table) {
             Ordering::Less => {
                 lo = mid + 1;
             }
             Ordering::Equal => {
-                return mid;
+                return at;
             }
             Ordering::Greater => {
-                hi = mid;
+                hi = at;
             }
         }
     }
-    table::SIZE
+    LENGTH
 }
 
-// The token of the command whose name is s[a..e]: the table has no name that is empty, has more than 24 bytes or ends in a zero,
-// and its three words determine any other.
-pub fn from_command(s: &[u8], a: usize, e: usize) -> Token
-    requires { ⌜ (a ≤ e) × (e ≤ length (now s)) ⌝ }
+// The token of the command whose name is s[a..e]: the table has no name that is empty or ends in a zero, and its words determine any
+// other.
+pub fn from_command(s: &[u8], a: usize, e: usize, table: &Table) -> Token
+    requires { ⌜ (a ≤ e) × (e ≤ length (now s)) × (now table ≡ rows) ⌝ }
     ensures { λ r. ⌜ r ≡ fromCommand (part a e (now (s .entry))) (Token.Command a e) ⌝ }
 {
     if a == e {
         return Token::Command(a, e);
     }
-    if 24 < e - a {
-        return Token::Command(a, e);
-    }
     if s[e - 1] == 0 {
         return Token::Command(a, e);
     }
-    let i = search(pack(s, a, e, 0), pack(s, a, e, 8), pack(s, a, e, 16));
-    if i < table::SIZE {
-        table::token_at(i)
+    let at = search(s, a, e, table);
+    if at < LENGTH {
+        token_of(table[at + (e - a + 3) / 4])
     } else {
         Token::Command(a, e)
     }

@@ -10,10 +10,14 @@ use Rattle.page.proofs.page_in.Lts as lts
 use Rattle.page.proofs.draft.draft_page.Reads as draft-page-reads
 use Rattle.page.proofs.write.write_page.Reads as write-page-reads
 use Rattle.text.proofs.put.put.Reads as put-reads
+use Rattle.token.proofs.table.table.Reads as table-reads
+
+table-requires : tie.Need-table-requires
+table-requires c κs = search needs
 
 draft-page-requires : tie.Need-draft-page-requires
 draft-page-requires c κs =
-    (c .before .before .before .before .before .before .before .before .before .before .pre)
+    ((c .before .before .before .before .before .before .before .before .before .before .before .before .pre) .0, (c .before .before .before .before .before .before .before .before .before .before .before .before .pre) .1, (c .before .before .before .before .before .table) .ensures)
 
 same-length : tie.Need-same-length
 same-length c = search needs
@@ -29,18 +33,18 @@ same-length-4 c = search needs
 
 returns : tie.Need-returns
 returns c =
-    pages-full ((c .before .before .before .before .before .before .before .before .before .before .before .before .before .before .before .before .before .before .before .before .args) .document .now) (length ((c .before .before .before .before .before .before .before .before .before .before .before .before .before .before .before .before .before .before .before .before .args) .store .now)) (length ((c .before .before .before .before .before .before .before .before .before .before .before .before .before .before .before .before .before .before .before .before .args) .work .now)) ((c .before .before .before .before .before .before .before .before .before .before .before .before .before .before .before .before .before .before .before .before .args) .out .now) ((c .before .before .before .before .before .before .before .before .before .before .before .before .before .before .before .before .before .before .before .before .pre) .0) ((c .before .before .before .before .before .before .before .before .before .draft-page) .ensures) ((c .if1) .taken)
+    pages-full ((c .before .before .before .before .before .before .before .before .before .before .before .before .before .before .before .before .before .before .before .before .before .before .args) .document .now) (length ((c .before .before .before .before .before .before .before .before .before .before .before .before .before .before .before .before .before .before .before .before .before .before .args) .store .now)) (length ((c .before .before .before .before .before .before .before .before .before .before .before .before .before .before .before .before .before .before .before .before .before .before .args) .work .now)) ((c .before .before .before .before .before .before .before .before .before .before .before .before .before .before .before .before .before .before .before .before .before .before .args) .out .now) ((c .before .before .before .before .before .before .before .before .before .before .before .before .before .before .before .before .before .before .before .before .before .before .pre) .0) ((c .before .before .before .before .before .before .before .before .before .draft-page) .ensures) ((c .if1) .taken)
 
 slice-reshare-prefix-put : tie.Need-slice-reshare-prefix-put
 slice-reshare-prefix-put c = (c .if2) .taken
 
 slice-aggregate-put : tie.Need-slice-aggregate-put
 slice-aggregate-put c =
-    copy-long ((c .before .before .before .before .before .before .before .before .before .before .before .before .before .before .before .before .before .before .before .before .before .before .args) .document .now) (length ((c .before .before .before .before .before .before .before .before .before .before .before .before .before .before .before .before .before .before .before .before .before .before .args) .store .now)) (length ((c .before .before .before .before .before .before .before .before .before .before .before .before .before .before .before .before .before .before .before .before .before .before .args) .work .now)) ((c .before .before .before .before .before .before .before .before .before .before .before .before .before .before .before .before .before .before .before .before .before .before .args) .out .now) ((c .before .before .before .before .before .before .before .before .before .before .before .before .before .before .before .before .before .before .before .before .before .before .pre) .0) ((c .before .before .before .before .before .before .before .before .before .before .before .draft-page) .ensures) (omega arith) ((c .before .before .if1) .left) ((c .before .if2) .taken)
+    copy-long ((c .before .before .before .before .before .before .before .before .before .before .before .before .before .before .before .before .before .before .before .before .before .before .before .before .args) .document .now) (length ((c .before .before .before .before .before .before .before .before .before .before .before .before .before .before .before .before .before .before .before .before .before .before .before .before .args) .store .now)) (length ((c .before .before .before .before .before .before .before .before .before .before .before .before .before .before .before .before .before .before .before .before .before .before .before .before .args) .work .now)) ((c .before .before .before .before .before .before .before .before .before .before .before .before .before .before .before .before .before .before .before .before .before .before .before .before .args) .out .now) ((c .before .before .before .before .before .before .before .before .before .before .before .before .before .before .before .before .before .before .before .before .before .before .before .before .pre) .0) ((c .before .before .before .before .before .before .before .before .before .before .before .draft-page) .ensures) (omega arith) ((c .before .before .if1) .left) ((c .before .if2) .taken)
 
 put-requires : tie.Need-put-requires
 put-requires c κs =
-    copy-room ((c .before .before .before .before .before .before .before .before .before .before .before .before .before .before .before .before .before .before .before .before .before .before .before .args) .document .now) (length ((c .before .before .before .before .before .before .before .before .before .before .before .before .before .before .before .before .before .before .before .before .before .before .before .args) .store .now)) (length ((c .before .before .before .before .before .before .before .before .before .before .before .before .before .before .before .before .before .before .before .before .before .before .before .args) .work .now)) ((c .before .before .before .before .before .before .before .before .before .before .before .before .before .before .before .before .before .before .before .before .before .before .before .args) .out .now) ((c .before .before .before .before .before .before .before .before .before .before .before .before .before .before .before .before .before .before .before .before .before .before .before .pre) .0) ((c .before .before .before .before .before .before .before .before .before .before .before .before .draft-page) .ensures) (omega arith) ((c .before .before .before .if1) .left) ((c .before .before .if2) .taken)
+    copy-room ((c .before .before .before .before .before .before .before .before .before .before .before .before .before .before .before .before .before .before .before .before .before .before .before .before .before .args) .document .now) (length ((c .before .before .before .before .before .before .before .before .before .before .before .before .before .before .before .before .before .before .before .before .before .before .before .before .before .args) .store .now)) (length ((c .before .before .before .before .before .before .before .before .before .before .before .before .before .before .before .before .before .before .before .before .before .before .before .before .before .args) .work .now)) ((c .before .before .before .before .before .before .before .before .before .before .before .before .before .before .before .before .before .before .before .before .before .before .before .before .before .args) .out .now) ((c .before .before .before .before .before .before .before .before .before .before .before .before .before .before .before .before .before .before .before .before .before .before .before .before .before .pre) .0) ((c .before .before .before .before .before .before .before .before .before .before .before .before .draft-page) .ensures) (omega arith) ((c .before .before .before .if1) .left) ((c .before .before .if2) .taken)
 
 same-length-5 : tie.Need-same-length-5
 same-length-5 c = search needs
@@ -59,13 +63,13 @@ same-length-9 c = search needs
 
 returns-2 : tie.Need-returns-2
 returns-2 c =
-    pages-copied ((c .before .before .before .before .before .before .before .before .before .before .before .before .before .before .before .before .before .before .before .before .before .before .before .before .before .before .args) .document .now) (length ((c .before .before .before .before .before .before .before .before .before .before .before .before .before .before .before .before .before .before .before .before .before .before .before .before .before .before .args) .store .now)) (length ((c .before .before .before .before .before .before .before .before .before .before .before .before .before .before .before .before .before .before .before .before .before .before .before .before .before .before .args) .work .now)) ((c .before .before .before .before .before .before .before .before .before .before .before .before .before .before .before .before .before .before .before .before .before .before .before .before .before .before .args) .out .now) ((c .before .before .before .before .before .before .before .before .before .before .before .before .before .before .before .before .before .before .before .before .before .before .before .before .before .before .pre) .0) ((c .before .before .before .before .before .before .before .before .before .before .before .before .before .before .before .draft-page) .ensures) (omega arith) ((c .before .before .before .before .before .before .if1) .left) ((c .before .before .before .before .before .if2) .taken) _ ((c .before .before .put) .ensures)
+    pages-copied ((c .before .before .before .before .before .before .before .before .before .before .before .before .before .before .before .before .before .before .before .before .before .before .before .before .before .before .before .before .args) .document .now) (length ((c .before .before .before .before .before .before .before .before .before .before .before .before .before .before .before .before .before .before .before .before .before .before .before .before .before .before .before .before .args) .store .now)) (length ((c .before .before .before .before .before .before .before .before .before .before .before .before .before .before .before .before .before .before .before .before .before .before .before .before .before .before .before .before .args) .work .now)) ((c .before .before .before .before .before .before .before .before .before .before .before .before .before .before .before .before .before .before .before .before .before .before .before .before .before .before .before .before .args) .out .now) ((c .before .before .before .before .before .before .before .before .before .before .before .before .before .before .before .before .before .before .before .before .before .before .before .before .before .before .before .before .pre) .0) ((c .before .before .before .before .before .before .before .before .before .before .before .before .before .before .before .draft-page) .ensures) (omega (arith, (c .before .before .before .before .before .before .before .before .before .before .before .before .before .before .before .before .before .before .before .before .before .before .before .before .before .before .before .before .good) .1 .1 .1 .0 .0)) ((c .before .before .before .before .before .before .if1) .left) ((c .before .before .before .before .before .if2) .taken) _ ((c .before .before .put) .ensures)
 
 write-page-requires : tie.Need-write-page-requires
 write-page-requires c κs =
-    let h = (c .before .before .before .before .before .before .before .before .before .before .before .before .before .before .draft-page) .ensures in
-    let q = (c .before .before .before .before .before .before .before .before .before .before .before .before .before .before .draft-page) .kept in
-    rw (q .1 .0, q .1 .1 .0) (h .marked, record { small = omega (arith, h .long); inside = λ e. omega (arith, h .long) })
+    let h = (c .before .before .before .before .before .before .before .before .before .before .before .before .before .before .before .draft-page) .ensures in
+    let q = (c .before .before .before .before .before .before .before .before .before .before .before .before .before .before .before .draft-page) .kept in
+    rw (q .1 .0, q .1 .1 .0) (h .marked, record { small = omega (arith, h .long); inside = λ e. omega (arith, h .long) }, (c .before .before .before .before .before .before .before .before .before .before .before .before .before .before .before .before .before .before .before .before .before .table) .ensures)
 
 same-length-10 : tie.Need-same-length-10
 same-length-10 c = search needs
@@ -84,13 +88,14 @@ same-length-14 c = search needs
 
 returns-3 : tie.Need-returns-3
 returns-3 c =
-    let q = (c .before .before .before .before .before .before .before .before .before .before .before .before .before .before .before .before .before .before .before .before .before .draft-page) .kept in
-    pages-written ((c .before .before .before .before .before .before .before .before .before .before .before .before .before .before .before .before .before .before .before .before .before .before .before .before .before .before .before .before .before .before .before .before .args) .document .now) (length ((c .before .before .before .before .before .before .before .before .before .before .before .before .before .before .before .before .before .before .before .before .before .before .before .before .before .before .before .before .before .before .before .before .args) .store .now)) (length ((c .before .before .before .before .before .before .before .before .before .before .before .before .before .before .before .before .before .before .before .before .before .before .before .before .before .before .before .before .before .before .before .before .args) .work .now)) ((c .before .before .before .before .before .before .before .before .before .before .before .before .before .before .before .before .before .before .before .before .before .before .before .before .before .before .before .before .before .before .before .before .args) .out .now) ((c .before .before .before .before .before .before .before .before .before .before .before .before .before .before .before .before .before .before .before .before .before .before .before .before .before .before .before .before .before .before .before .before .pre) .0) ((c .before .before .before .before .before .before .before .before .before .before .before .before .before .before .before .before .before .before .before .before .before .draft-page) .ensures) ((c .before .before .before .before .before .before .before .before .before .before .before .before .if1) .left) (rw (q .1 .0, q .1 .1 .0) at ((c .before .before .before .before .before .before .write-page) .ensures))
+    let q = (c .before .before .before .before .before .before .before .before .before .before .before .before .before .before .before .before .before .before .before .before .before .before .draft-page) .kept in
+    pages-written ((c .before .before .before .before .before .before .before .before .before .before .before .before .before .before .before .before .before .before .before .before .before .before .before .before .before .before .before .before .before .before .before .before .before .before .before .args) .document .now) (length ((c .before .before .before .before .before .before .before .before .before .before .before .before .before .before .before .before .before .before .before .before .before .before .before .before .before .before .before .before .before .before .before .before .before .before .before .args) .store .now)) (length ((c .before .before .before .before .before .before .before .before .before .before .before .before .before .before .before .before .before .before .before .before .before .before .before .before .before .before .before .before .before .before .before .before .before .before .before .args) .work .now)) ((c .before .before .before .before .before .before .before .before .before .before .before .before .before .before .before .before .before .before .before .before .before .before .before .before .before .before .before .before .before .before .before .before .before .before .before .args) .out .now) ((c .before .before .before .before .before .before .before .before .before .before .before .before .before .before .before .before .before .before .before .before .before .before .before .before .before .before .before .before .before .before .before .before .before .before .before .pre) .0) ((c .before .before .before .before .before .before .before .before .before .before .before .before .before .before .before .before .before .before .before .before .before .before .draft-page) .ensures) ((c .before .before .before .before .before .before .before .before .before .before .before .before .before .if1) .left) (rw (q .1 .0, q .1 .1 .0) at ((c .before .before .before .before .before .before .write-page) .ensures))
 
 pub page-in-spec : {M : Type 1} → statement M
 page-in-spec =
     tie.close
     (tie.spec
+    table-requires
     draft-page-requires
     same-length
     same-length-2

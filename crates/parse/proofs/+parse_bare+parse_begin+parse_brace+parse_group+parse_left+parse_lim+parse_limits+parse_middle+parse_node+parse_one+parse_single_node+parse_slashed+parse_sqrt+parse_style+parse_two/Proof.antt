@@ -103,187 +103,187 @@ use Rattle.parser.proofs.marks.stands_alone.Reads as stands-alone-reads
 use Rattle.parse.proofs.+parse_bare+parse_begin+parse_brace+parse_group+parse_left+parse_lim+parse_limits+parse_middle+parse_node+parse_one+parse_single_node+parse_slashed+parse_sqrt+parse_style+parse_two.{statement}
 use Rattle.parse.proofs.+parse_bare+parse_begin+parse_brace+parse_group+parse_left+parse_lim+parse_limits+parse_middle+parse_node+parse_one+parse_single_node+parse_slashed+parse_sqrt+parse_style+parse_two.Tie.{close}
 
-abbrev μ-parse-bare : Measures 2 parse-bare-kinds.ps ℕ
+abbrev μ-parse-bare : Measures 3 parse-bare-kinds.ps ℕ
 μ-parse-bare κs a = 4 * a .1 .1 .1 .0 + 3
 
-abbrev μ-parse-begin : Measures 2 parse-begin-kinds.ps ℕ
+abbrev μ-parse-begin : Measures 3 parse-begin-kinds.ps ℕ
 μ-parse-begin κs a = 4 * a .1 .1 .1 .0 + 2
 
-abbrev μ-parse-brace : Measures 2 parse-brace-kinds.ps ℕ
+abbrev μ-parse-brace : Measures 3 parse-brace-kinds.ps ℕ
 μ-parse-brace κs a = 4 * a .1 .1 .1 .0 + 2
 
-abbrev μ-parse-group : Measures 2 parse-group-kinds.ps ℕ
+abbrev μ-parse-group : Measures 3 parse-group-kinds.ps ℕ
 μ-parse-group κs a = 4 * a .1 .1 .1 .0 + 1
 
-abbrev μ-parse-left : Measures 2 parse-left-kinds.ps ℕ
+abbrev μ-parse-left : Measures 3 parse-left-kinds.ps ℕ
 μ-parse-left κs a = 4 * a .1 .1 .1 .0 + 2
 
-abbrev μ-parse-lim : Measures 2 parse-lim-kinds.ps ℕ
+abbrev μ-parse-lim : Measures 3 parse-lim-kinds.ps ℕ
 μ-parse-lim κs a = 4 * a .1 .1 .1 .0 + 2
 
-abbrev μ-parse-limits : Measures 2 parse-limits-kinds.ps ℕ
+abbrev μ-parse-limits : Measures 3 parse-limits-kinds.ps ℕ
 μ-parse-limits κs a = 4 * a .1 .1 .1 .0 + 2
 
-abbrev μ-parse-middle : Measures 2 parse-middle-kinds.ps ℕ
+abbrev μ-parse-middle : Measures 3 parse-middle-kinds.ps ℕ
 μ-parse-middle κs a = 4 * a .1 .1 .1 .0 + 2
 
-abbrev μ-parse-node : Measures 2 parse-node-kinds.ps ℕ
+abbrev μ-parse-node : Measures 3 parse-node-kinds.ps ℕ
 μ-parse-node κs a = 4 * a .1 .1 .1 .0
 
-abbrev μ-parse-one : Measures 2 parse-one-kinds.ps ℕ
+abbrev μ-parse-one : Measures 3 parse-one-kinds.ps ℕ
 μ-parse-one κs a = 4 * a .1 .1 .1 .0 + 2
 
-abbrev μ-parse-single-node : Measures 2 parse-single-node-kinds.ps ℕ
+abbrev μ-parse-single-node : Measures 3 parse-single-node-kinds.ps ℕ
 μ-parse-single-node κs a = 4 * a .1 .1 .1 .0
 
-abbrev μ-parse-slashed : Measures 2 parse-slashed-kinds.ps ℕ
+abbrev μ-parse-slashed : Measures 3 parse-slashed-kinds.ps ℕ
 μ-parse-slashed κs a = 4 * a .1 .1 .1 .0 + 2
 
-abbrev μ-parse-sqrt : Measures 2 parse-sqrt-kinds.ps ℕ
+abbrev μ-parse-sqrt : Measures 3 parse-sqrt-kinds.ps ℕ
 μ-parse-sqrt κs a = 4 * a .1 .1 .1 .0 + 2
 
-abbrev μ-parse-style : Measures 2 parse-style-kinds.ps ℕ
+abbrev μ-parse-style : Measures 3 parse-style-kinds.ps ℕ
 μ-parse-style κs a = 4 * a .1 .1 .1 .0 + 2
 
-abbrev μ-parse-two : Measures 2 parse-two-kinds.ps ℕ
+abbrev μ-parse-two : Measures 3 parse-two-kinds.ps ℕ
 μ-parse-two κs a = 4 * a .1 .1 .1 .0 + 2
 
-abbrev parse-bare-at : ℕ → In 2 parse-bare-kinds.ps
+abbrev parse-bare-at : ℕ → In 3 parse-bare-kinds.ps
 parse-bare-at t =
-    and 2 parse-bare-kinds.ps (is 2 parse-bare-kinds.ps μ-parse-bare t) parse-bare.Pre
+    and 3 parse-bare-kinds.ps (is 3 parse-bare-kinds.ps μ-parse-bare t) parse-bare.Pre
 
-abbrev parse-bare-below : ℕ → In 2 parse-bare-kinds.ps
+abbrev parse-bare-below : ℕ → In 3 parse-bare-kinds.ps
 parse-bare-below t =
-    and 2 parse-bare-kinds.ps (falls 2 parse-bare-kinds.ps _<_ μ-parse-bare t) parse-bare.Pre
+    and 3 parse-bare-kinds.ps (falls 3 parse-bare-kinds.ps _<_ μ-parse-bare t) parse-bare.Pre
 
-abbrev parse-begin-at : ℕ → In 2 parse-begin-kinds.ps
+abbrev parse-begin-at : ℕ → In 3 parse-begin-kinds.ps
 parse-begin-at t =
-    and 2 parse-begin-kinds.ps (is 2 parse-begin-kinds.ps μ-parse-begin t) parse-begin.Pre
+    and 3 parse-begin-kinds.ps (is 3 parse-begin-kinds.ps μ-parse-begin t) parse-begin.Pre
 
-abbrev parse-begin-below : ℕ → In 2 parse-begin-kinds.ps
+abbrev parse-begin-below : ℕ → In 3 parse-begin-kinds.ps
 parse-begin-below t =
-    and 2 parse-begin-kinds.ps (falls 2 parse-begin-kinds.ps _<_ μ-parse-begin t) parse-begin.Pre
+    and 3 parse-begin-kinds.ps (falls 3 parse-begin-kinds.ps _<_ μ-parse-begin t) parse-begin.Pre
 
-abbrev parse-brace-at : ℕ → In 2 parse-brace-kinds.ps
+abbrev parse-brace-at : ℕ → In 3 parse-brace-kinds.ps
 parse-brace-at t =
-    and 2 parse-brace-kinds.ps (is 2 parse-brace-kinds.ps μ-parse-brace t) parse-brace.Pre
+    and 3 parse-brace-kinds.ps (is 3 parse-brace-kinds.ps μ-parse-brace t) parse-brace.Pre
 
-abbrev parse-brace-below : ℕ → In 2 parse-brace-kinds.ps
+abbrev parse-brace-below : ℕ → In 3 parse-brace-kinds.ps
 parse-brace-below t =
-    and 2 parse-brace-kinds.ps (falls 2 parse-brace-kinds.ps _<_ μ-parse-brace t) parse-brace.Pre
+    and 3 parse-brace-kinds.ps (falls 3 parse-brace-kinds.ps _<_ μ-parse-brace t) parse-brace.Pre
 
-abbrev parse-group-at : ℕ → In 2 parse-group-kinds.ps
+abbrev parse-group-at : ℕ → In 3 parse-group-kinds.ps
 parse-group-at t =
-    and 2 parse-group-kinds.ps (is 2 parse-group-kinds.ps μ-parse-group t) parse-group.Pre
+    and 3 parse-group-kinds.ps (is 3 parse-group-kinds.ps μ-parse-group t) parse-group.Pre
 
-abbrev parse-group-below : ℕ → In 2 parse-group-kinds.ps
+abbrev parse-group-below : ℕ → In 3 parse-group-kinds.ps
 parse-group-below t =
-    and 2 parse-group-kinds.ps (falls 2 parse-group-kinds.ps _<_ μ-parse-group t) parse-group.Pre
+    and 3 parse-group-kinds.ps (falls 3 parse-group-kinds.ps _<_ μ-parse-group t) parse-group.Pre
 
-abbrev parse-left-at : ℕ → In 2 parse-left-kinds.ps
+abbrev parse-left-at : ℕ → In 3 parse-left-kinds.ps
 parse-left-at t =
-    and 2 parse-left-kinds.ps (is 2 parse-left-kinds.ps μ-parse-left t) parse-left.Pre
+    and 3 parse-left-kinds.ps (is 3 parse-left-kinds.ps μ-parse-left t) parse-left.Pre
 
-abbrev parse-left-below : ℕ → In 2 parse-left-kinds.ps
+abbrev parse-left-below : ℕ → In 3 parse-left-kinds.ps
 parse-left-below t =
-    and 2 parse-left-kinds.ps (falls 2 parse-left-kinds.ps _<_ μ-parse-left t) parse-left.Pre
+    and 3 parse-left-kinds.ps (falls 3 parse-left-kinds.ps _<_ μ-parse-left t) parse-left.Pre
 
-abbrev parse-lim-at : ℕ → In 2 parse-lim-kinds.ps
-parse-lim-at t = and 2 parse-lim-kinds.ps (is 2 parse-lim-kinds.ps μ-parse-lim t) parse-lim.Pre
+abbrev parse-lim-at : ℕ → In 3 parse-lim-kinds.ps
+parse-lim-at t = and 3 parse-lim-kinds.ps (is 3 parse-lim-kinds.ps μ-parse-lim t) parse-lim.Pre
 
-abbrev parse-lim-below : ℕ → In 2 parse-lim-kinds.ps
+abbrev parse-lim-below : ℕ → In 3 parse-lim-kinds.ps
 parse-lim-below t =
-    and 2 parse-lim-kinds.ps (falls 2 parse-lim-kinds.ps _<_ μ-parse-lim t) parse-lim.Pre
+    and 3 parse-lim-kinds.ps (falls 3 parse-lim-kinds.ps _<_ μ-parse-lim t) parse-lim.Pre
 
-abbrev parse-limits-at : ℕ → In 2 parse-limits-kinds.ps
+abbrev parse-limits-at : ℕ → In 3 parse-limits-kinds.ps
 parse-limits-at t =
-    and 2 parse-limits-kinds.ps (is 2 parse-limits-kinds.ps μ-parse-limits t) parse-limits.Pre
+    and 3 parse-limits-kinds.ps (is 3 parse-limits-kinds.ps μ-parse-limits t) parse-limits.Pre
 
-abbrev parse-limits-below : ℕ → In 2 parse-limits-kinds.ps
+abbrev parse-limits-below : ℕ → In 3 parse-limits-kinds.ps
 parse-limits-below t =
     and
-    2
+    3
     parse-limits-kinds.ps
-    (falls 2 parse-limits-kinds.ps _<_ μ-parse-limits t)
+    (falls 3 parse-limits-kinds.ps _<_ μ-parse-limits t)
     parse-limits.Pre
 
-abbrev parse-middle-at : ℕ → In 2 parse-middle-kinds.ps
+abbrev parse-middle-at : ℕ → In 3 parse-middle-kinds.ps
 parse-middle-at t =
-    and 2 parse-middle-kinds.ps (is 2 parse-middle-kinds.ps μ-parse-middle t) parse-middle.Pre
+    and 3 parse-middle-kinds.ps (is 3 parse-middle-kinds.ps μ-parse-middle t) parse-middle.Pre
 
-abbrev parse-middle-below : ℕ → In 2 parse-middle-kinds.ps
+abbrev parse-middle-below : ℕ → In 3 parse-middle-kinds.ps
 parse-middle-below t =
     and
-    2
+    3
     parse-middle-kinds.ps
-    (falls 2 parse-middle-kinds.ps _<_ μ-parse-middle t)
+    (falls 3 parse-middle-kinds.ps _<_ μ-parse-middle t)
     parse-middle.Pre
 
-abbrev parse-node-at : ℕ → In 2 parse-node-kinds.ps
+abbrev parse-node-at : ℕ → In 3 parse-node-kinds.ps
 parse-node-at t =
-    and 2 parse-node-kinds.ps (is 2 parse-node-kinds.ps μ-parse-node t) parse-node.Pre
+    and 3 parse-node-kinds.ps (is 3 parse-node-kinds.ps μ-parse-node t) parse-node.Pre
 
-abbrev parse-node-below : ℕ → In 2 parse-node-kinds.ps
+abbrev parse-node-below : ℕ → In 3 parse-node-kinds.ps
 parse-node-below t =
-    and 2 parse-node-kinds.ps (falls 2 parse-node-kinds.ps _<_ μ-parse-node t) parse-node.Pre
+    and 3 parse-node-kinds.ps (falls 3 parse-node-kinds.ps _<_ μ-parse-node t) parse-node.Pre
 
-abbrev parse-one-at : ℕ → In 2 parse-one-kinds.ps
-parse-one-at t = and 2 parse-one-kinds.ps (is 2 parse-one-kinds.ps μ-parse-one t) parse-one.Pre
+abbrev parse-one-at : ℕ → In 3 parse-one-kinds.ps
+parse-one-at t = and 3 parse-one-kinds.ps (is 3 parse-one-kinds.ps μ-parse-one t) parse-one.Pre
 
-abbrev parse-one-below : ℕ → In 2 parse-one-kinds.ps
+abbrev parse-one-below : ℕ → In 3 parse-one-kinds.ps
 parse-one-below t =
-    and 2 parse-one-kinds.ps (falls 2 parse-one-kinds.ps _<_ μ-parse-one t) parse-one.Pre
+    and 3 parse-one-kinds.ps (falls 3 parse-one-kinds.ps _<_ μ-parse-one t) parse-one.Pre
 
-abbrev parse-single-node-at : ℕ → In 2 parse-single-node-kinds.ps
+abbrev parse-single-node-at : ℕ → In 3 parse-single-node-kinds.ps
 parse-single-node-at t =
     and
-    2
+    3
     parse-single-node-kinds.ps
-    (is 2 parse-single-node-kinds.ps μ-parse-single-node t)
+    (is 3 parse-single-node-kinds.ps μ-parse-single-node t)
     parse-single-node.Pre
 
-abbrev parse-single-node-below : ℕ → In 2 parse-single-node-kinds.ps
+abbrev parse-single-node-below : ℕ → In 3 parse-single-node-kinds.ps
 parse-single-node-below t =
     and
-    2
+    3
     parse-single-node-kinds.ps
-    (falls 2 parse-single-node-kinds.ps _<_ μ-parse-single-node t)
+    (falls 3 parse-single-node-kinds.ps _<_ μ-parse-single-node t)
     parse-single-node.Pre
 
-abbrev parse-slashed-at : ℕ → In 2 parse-slashed-kinds.ps
+abbrev parse-slashed-at : ℕ → In 3 parse-slashed-kinds.ps
 parse-slashed-at t =
-    and 2 parse-slashed-kinds.ps (is 2 parse-slashed-kinds.ps μ-parse-slashed t) parse-slashed.Pre
+    and 3 parse-slashed-kinds.ps (is 3 parse-slashed-kinds.ps μ-parse-slashed t) parse-slashed.Pre
 
-abbrev parse-slashed-below : ℕ → In 2 parse-slashed-kinds.ps
+abbrev parse-slashed-below : ℕ → In 3 parse-slashed-kinds.ps
 parse-slashed-below t =
     and
-    2
+    3
     parse-slashed-kinds.ps
-    (falls 2 parse-slashed-kinds.ps _<_ μ-parse-slashed t)
+    (falls 3 parse-slashed-kinds.ps _<_ μ-parse-slashed t)
     parse-slashed.Pre
 
-abbrev parse-sqrt-at : ℕ → In 2 parse-sqrt-kinds.ps
+abbrev parse-sqrt-at : ℕ → In 3 parse-sqrt-kinds.ps
 parse-sqrt-at t =
-    and 2 parse-sqrt-kinds.ps (is 2 parse-sqrt-kinds.ps μ-parse-sqrt t) parse-sqrt.Pre
+    and 3 parse-sqrt-kinds.ps (is 3 parse-sqrt-kinds.ps μ-parse-sqrt t) parse-sqrt.Pre
 
-abbrev parse-sqrt-below : ℕ → In 2 parse-sqrt-kinds.ps
+abbrev parse-sqrt-below : ℕ → In 3 parse-sqrt-kinds.ps
 parse-sqrt-below t =
-    and 2 parse-sqrt-kinds.ps (falls 2 parse-sqrt-kinds.ps _<_ μ-parse-sqrt t) parse-sqrt.Pre
+    and 3 parse-sqrt-kinds.ps (falls 3 parse-sqrt-kinds.ps _<_ μ-parse-sqrt t) parse-sqrt.Pre
 
-abbrev parse-style-at : ℕ → In 2 parse-style-kinds.ps
+abbrev parse-style-at : ℕ → In 3 parse-style-kinds.ps
 parse-style-at t =
-    and 2 parse-style-kinds.ps (is 2 parse-style-kinds.ps μ-parse-style t) parse-style.Pre
+    and 3 parse-style-kinds.ps (is 3 parse-style-kinds.ps μ-parse-style t) parse-style.Pre
 
-abbrev parse-style-below : ℕ → In 2 parse-style-kinds.ps
+abbrev parse-style-below : ℕ → In 3 parse-style-kinds.ps
 parse-style-below t =
-    and 2 parse-style-kinds.ps (falls 2 parse-style-kinds.ps _<_ μ-parse-style t) parse-style.Pre
+    and 3 parse-style-kinds.ps (falls 3 parse-style-kinds.ps _<_ μ-parse-style t) parse-style.Pre
 
-abbrev parse-two-at : ℕ → In 2 parse-two-kinds.ps
-parse-two-at t = and 2 parse-two-kinds.ps (is 2 parse-two-kinds.ps μ-parse-two t) parse-two.Pre
+abbrev parse-two-at : ℕ → In 3 parse-two-kinds.ps
+parse-two-at t = and 3 parse-two-kinds.ps (is 3 parse-two-kinds.ps μ-parse-two t) parse-two.Pre
 
-abbrev parse-two-below : ℕ → In 2 parse-two-kinds.ps
+abbrev parse-two-below : ℕ → In 3 parse-two-kinds.ps
 parse-two-below t =
-    and 2 parse-two-kinds.ps (falls 2 parse-two-kinds.ps _<_ μ-parse-two t) parse-two.Pre
+    and 3 parse-two-kinds.ps (falls 3 parse-two-kinds.ps _<_ μ-parse-two t) parse-two.Pre
 
 -- the contracts that parse-bare is proved from
 abbrev parse-bare-calls : ℕ → parse-bare-lts.Claims
@@ -715,11 +715,12 @@ parse-bare-returns-22 t c =
     after-none _ _ ((c .before .before .before .before .before .before .before .before .before .args) .p) ((c .before .before .before .before .before .before .before .before .before .args) .p) _ _ ((c .before .before .make-leaf) .result) refl (rw ((c .before .before .before .leaf-of) .ensures) at ((c .before .before .make-leaf) .ensures)) (bare-leaf (λ q. parseNode ((c .before .before .before .before .before .before .before .before .before .args) .depth) ((c .before .before .before .before .before .before .before .before .before .args) .s .now) q) (λ q. parseSingleNode ((c .before .before .before .before .before .before .before .before .before .args) .depth) ((c .before .before .before .before .before .before .before .before .before .args) .s .now) q) ((c .before .before .before .before .before .before .before .before .before .args) .s .now) (((c .before .before .before .before .before .before .before .before .before .args) .p) .cur .token) ((c .before .before .before .before .before .before .before .before .before .args) .p) ((c .before .before .before .before .before .match) .keys22))
 
 parse-begin-next-token-requires : (t : ℕ) → parse-begin-lts.Need-next-token-requires (parse-begin-calls t) (parse-begin-at t) parse-begin.Post
-parse-begin-next-token-requires t c κs = (c .before .before .pre) .1 .0 .sound .peek .inside
+parse-begin-next-token-requires t c κs = let n = (c .before .before .pre) .1 .0 in
+    (n .sound .peek .inside, n .table)
 
 parse-begin-parse-text-requires : (t : ℕ) → parse-begin-lts.Need-parse-text-requires (parse-begin-calls t) (parse-begin-at t) parse-begin.Post
-parse-begin-parse-text-requires t c κs =
-    (ends-next (ready-ends ((c .before .before .before .pre) .1 .0) ((c .before .before .before .pre) .1 .1)) ((c .next-token) .ensures)) .sound
+parse-begin-parse-text-requires t c κs = let n = (ends-next (ready-ends ((c .before .before .before .pre) .1 .0) ((c .before .before .before .pre) .1 .1)) ((c .next-token) .ensures)) in
+    (n .sound, n .table)
 
 parse-begin-parse-group-requires : (t : ℕ) → parse-begin-lts.Need-parse-group-requires (parse-begin-calls t) (parse-begin-at t) parse-begin.Post
 unfolding markNumber
@@ -737,13 +738,15 @@ parse-begin-next-token-requires-2 : (t : ℕ) → parse-begin-lts.Need-next-toke
 unfolding markNumber
 parse-begin-next-token-requires-2 t c κs =
     let g = rw ((c .before .content) .given .1) at ((c .before .before .before .before .before .parse-group) .ensures) in
-    (group-ends ((c .before .before .before .before .before .parse-group) .kept .1 .0) Mark.End (starts-text (ends-next (ready-ends ((c .before .before .before .before .before .before .before .before .before .before .before .before .pre) .1 .0) ((c .before .before .before .before .before .before .before .before .before .before .before .before .pre) .1 .1)) ((c .before .before .before .before .before .before .before .before .before .next-token) .ensures)) ((c .before .before .before .before .before .before .before .before .parse-text) .ensures)) (node-keeps ((c .before .before .before .before .before .before .before .before .before .before .before .before .args) .depth) ((c .before .before .before .before .before .before .before .before .before .before .before .before .args) .s .now)) (lit≤ tt) g) .sound .peek .inside
+    let n = (group-ends ((c .before .before .before .before .before .parse-group) .kept .1 .0) Mark.End (starts-text (ends-next (ready-ends ((c .before .before .before .before .before .before .before .before .before .before .before .before .pre) .1 .0) ((c .before .before .before .before .before .before .before .before .before .before .before .before .pre) .1 .1)) ((c .before .before .before .before .before .before .before .before .before .next-token) .ensures)) ((c .before .before .before .before .before .before .before .before .parse-text) .ensures)) (node-keeps ((c .before .before .before .before .before .before .before .before .before .before .before .before .args) .depth) ((c .before .before .before .before .before .before .before .before .before .before .before .before .args) .s .now)) (lit≤ tt) g) in
+    (n .sound .peek .inside, n .table)
 
 parse-begin-parse-text-requires-2 : (t : ℕ) → parse-begin-lts.Need-parse-text-requires-2 (parse-begin-calls t) (parse-begin-at t) parse-begin.Post
 unfolding markNumber
 parse-begin-parse-text-requires-2 t c κs =
     let g = rw ((c .before .before .content) .given .1) at ((c .before .before .before .before .before .before .parse-group) .ensures) in
-    (ends-next (group-ends ((c .before .before .before .before .before .before .parse-group) .kept .1 .0) Mark.End (starts-text (ends-next (ready-ends ((c .before .before .before .before .before .before .before .before .before .before .before .before .before .pre) .1 .0) ((c .before .before .before .before .before .before .before .before .before .before .before .before .before .pre) .1 .1)) ((c .before .before .before .before .before .before .before .before .before .before .next-token) .ensures)) ((c .before .before .before .before .before .before .before .before .before .parse-text) .ensures)) (node-keeps ((c .before .before .before .before .before .before .before .before .before .before .before .before .before .args) .depth) ((c .before .before .before .before .before .before .before .before .before .before .before .before .before .args) .s .now)) (lit≤ tt) g) ((c .next-token2) .ensures)) .sound
+    let n = (ends-next (group-ends ((c .before .before .before .before .before .before .parse-group) .kept .1 .0) Mark.End (starts-text (ends-next (ready-ends ((c .before .before .before .before .before .before .before .before .before .before .before .before .before .pre) .1 .0) ((c .before .before .before .before .before .before .before .before .before .before .before .before .before .pre) .1 .1)) ((c .before .before .before .before .before .before .before .before .before .before .next-token) .ensures)) ((c .before .before .before .before .before .before .before .before .before .parse-text) .ensures)) (node-keeps ((c .before .before .before .before .before .before .before .before .before .before .before .before .before .args) .depth) ((c .before .before .before .before .before .before .before .before .before .before .before .before .before .args) .s .now)) (lit≤ tt) g) ((c .next-token2) .ensures)) in
+    (n .sound, n .table)
 
 parse-begin-sub-environment-of : (t : ℕ) → parse-begin-lts.Need-sub-environment-of (parse-begin-calls t) (parse-begin-at t) parse-begin.Post
 parse-begin-sub-environment-of t c =
@@ -767,7 +770,7 @@ parse-begin-part-environment-of-end t c =
     omega arith
 
 parse-begin-environment-of-requires : (t : ℕ) → parse-begin-lts.Need-environment-of-requires (parse-begin-calls t) (parse-begin-at t) parse-begin.Post
-parse-begin-environment-of-requires t c κs = search needs
+parse-begin-environment-of-requires t c κs = (c .before .before .before .before .before .before .before .before .before .before .before .before .before .before .before .pre) .1 .0 .table
 
 parse-begin-make-environment-requires : (t : ℕ) → parse-begin-lts.Need-make-environment-requires (parse-begin-calls t) (parse-begin-at t) parse-begin.Post
 unfolding markNumber
@@ -795,7 +798,8 @@ parse-begin-returns-2 t c =
     after-one _ _ ((c .before .before .before .before .before .before .before .before .before .before .before .before .before .before .before .before .before .before .before .before .before .args) .p) _ _ _ _ ((text-made ((c .before .before .before .before .before .before .before .before .before .before .before .before .before .before .before .before .before .before .before .before .before .args) .s .now) _ ((c .before .before .before .before .before .before .before .before .before .before .before .before .before .before .before .before .before .parse-text) .ensures)) ∙ (next-made ((c .before .before .before .before .before .before .before .before .before .before .before .before .before .before .before .before .before .before .before .before .before .args) .s .now) ((c .before .before .before .before .before .before .before .before .before .before .before .before .before .before .before .before .before .before .before .before .before .args) .p) ((c .before .before .before .before .before .before .before .before .before .before .before .before .before .before .before .before .before .before .next-token) .ensures))) g _ _ _ _ ((c .before .before .make-environment) .result) ((text-made ((c .before .before .before .before .before .before .before .before .before .before .before .before .before .before .before .before .before .before .before .before .before .args) .s .now) _ ((c .before .before .before .before .before .before .before .parse-text2) .ensures)) ∙ (next-made ((c .before .before .before .before .before .before .before .before .before .before .before .before .before .before .before .before .before .before .before .before .before .args) .s .now) _ ((c .before .before .before .before .before .before .before .before .next-token2) .ensures))) ((c .before .before .make-environment) .ensures) (begin-is (λ q. parseNode ((c .before .before .before .before .before .before .before .before .before .before .before .before .before .before .before .before .before .before .before .before .before .args) .depth) ((c .before .before .before .before .before .before .before .before .before .before .before .before .before .before .before .before .before .before .before .before .before .args) .s .now) q) ((c .before .before .before .before .before .before .before .before .before .before .before .before .before .before .before .before .before .before .before .before .before .args) .s .now) ((c .before .before .before .before .before .before .before .before .before .before .before .before .before .before .before .before .before .before .before .before .before .args) .p) ((c .before .before .before .before .before .before .before .before .before .before .before .before .before .before .before .before .before .before .next-token) .ensures) ((c .before .before .before .before .before .before .before .before .before .before .before .before .before .before .before .before .before .parse-text) .ensures) (g .is) ((c .before .before .before .before .before .before .before .before .next-token2) .ensures) ((c .before .before .before .before .before .before .before .parse-text2) .ensures) ∙ ap (λ x. inEnvironment x (opened (g .tree)) ((c .before .before .before .before .before .before .before .parse-text2) .result .after)) (sym ((c .before .before .before .before .before .environment-of) .ensures)))
 
 parse-brace-next-token-requires : (t : ℕ) → parse-brace-lts.Need-next-token-requires (parse-brace-calls t) (parse-brace-at t) parse-brace.Post
-parse-brace-next-token-requires t c κs = (c .before .before .pre) .1 .0 .sound .peek .inside
+parse-brace-next-token-requires t c κs = let n = (c .before .before .pre) .1 .0 in
+    (n .sound .peek .inside, n .table)
 
 parse-brace-parse-single-node-requires : (t : ℕ) → parse-brace-lts.Need-parse-single-node-requires (parse-brace-calls t) (parse-brace-at t) parse-brace.Post
 parse-brace-parse-single-node-requires t c κs =
@@ -827,12 +831,14 @@ parse-brace-returns t c =
 parse-brace-next-token-requires-2 : (t : ℕ) → parse-brace-lts.Need-next-token-requires-2 (parse-brace-calls t) (parse-brace-at t) parse-brace.Post
 parse-brace-next-token-requires-2 t c κs =
     let g = rw ((c .before .before .before .target) .given .1) at ((c .before .before .before .before .before .before .before .parse-single-node) .ensures) in
-    (node-ends ((c .before .before .before .before .before .before .before .parse-single-node) .kept .1 .0) 5 (ends-next (ready-ends ((c .before .before .before .before .before .before .before .before .before .before .before .before .pre) .1 .0) ((c .before .before .before .before .before .before .before .before .before .before .before .before .pre) .1 .1)) ((c .before .before .before .before .before .before .before .before .before .next-token) .ensures)) (omega arith) (single-keeps ((c .before .before .before .before .before .before .before .before .before .before .before .before .args) .depth) ((c .before .before .before .before .before .before .before .before .before .before .before .before .args) .s .now)) g) .sound .peek .inside
+    let n = (node-ends ((c .before .before .before .before .before .before .before .parse-single-node) .kept .1 .0) 5 (ends-next (ready-ends ((c .before .before .before .before .before .before .before .before .before .before .before .before .pre) .1 .0) ((c .before .before .before .before .before .before .before .before .before .before .before .before .pre) .1 .1)) ((c .before .before .before .before .before .before .before .before .before .next-token) .ensures)) (omega arith) (single-keeps ((c .before .before .before .before .before .before .before .before .before .before .before .before .args) .depth) ((c .before .before .before .before .before .before .before .before .before .before .before .before .args) .s .now)) g) in
+    (n .sound .peek .inside, n .table)
 
 parse-brace-next-token-requires-3 : (t : ℕ) → parse-brace-lts.Need-next-token-requires-3 (parse-brace-calls t) (parse-brace-at t) parse-brace.Post
 parse-brace-next-token-requires-3 t c κs =
     let g = rw ((c .before .before .before .before .target) .given .1) at ((c .before .before .before .before .before .before .before .before .parse-single-node) .ensures) in
-    (ends-next (node-ends ((c .before .before .before .before .before .before .before .before .parse-single-node) .kept .1 .0) 5 (ends-next (ready-ends ((c .before .before .before .before .before .before .before .before .before .before .before .before .before .pre) .1 .0) ((c .before .before .before .before .before .before .before .before .before .before .before .before .before .pre) .1 .1)) ((c .before .before .before .before .before .before .before .before .before .before .next-token) .ensures)) (omega arith) (single-keeps ((c .before .before .before .before .before .before .before .before .before .before .before .before .before .args) .depth) ((c .before .before .before .before .before .before .before .before .before .before .before .before .before .args) .s .now)) g) ((c .next-token2) .ensures)) .sound .peek .inside
+    let n = (ends-next (node-ends ((c .before .before .before .before .before .before .before .before .parse-single-node) .kept .1 .0) 5 (ends-next (ready-ends ((c .before .before .before .before .before .before .before .before .before .before .before .before .before .pre) .1 .0) ((c .before .before .before .before .before .before .before .before .before .before .before .before .before .pre) .1 .1)) ((c .before .before .before .before .before .before .before .before .before .before .next-token) .ensures)) (omega arith) (single-keeps ((c .before .before .before .before .before .before .before .before .before .before .before .before .before .args) .depth) ((c .before .before .before .before .before .before .before .before .before .before .before .before .before .args) .s .now)) g) ((c .next-token2) .ensures)) in
+    (n .sound .peek .inside, n .table)
 
 parse-brace-parse-single-node-requires-2 :
     (t : ℕ) → parse-brace-lts.Need-parse-single-node-requires-2 (parse-brace-calls t) (parse-brace-at t) parse-brace.Post
@@ -881,15 +887,16 @@ parse-brace-returns-4 t c =
     after-two _ _ ((c .before .before .before .before .before .before .before .before .before .before .before .before .before .before .before .before .before .before .before .before .before .before .before .before .before .args) .p) _ _ _ _ (next-made ((c .before .before .before .before .before .before .before .before .before .before .before .before .before .before .before .before .before .before .before .before .before .before .before .before .before .args) .s .now) ((c .before .before .before .before .before .before .before .before .before .before .before .before .before .before .before .before .before .before .before .before .before .before .before .before .before .args) .p) ((c .before .before .before .before .before .before .before .before .before .before .before .before .before .before .before .before .before .before .before .before .before .before .next-token) .ensures)) g _ _ _ _ _ ((next-made ((c .before .before .before .before .before .before .before .before .before .before .before .before .before .before .before .before .before .before .before .before .before .before .before .before .before .args) .s .now) _ ((c .before .before .before .before .before .before .before .before .before .before .before .next-token3) .ensures)) ∙ (next-made ((c .before .before .before .before .before .before .before .before .before .before .before .before .before .before .before .before .before .before .before .before .before .before .before .before .before .args) .s .now) _ ((c .before .before .before .before .before .before .before .before .before .before .before .before .next-token2) .ensures))) h _ _ _ _ ((c .before .before .make-explained) .result) refl ((c .before .before .make-explained) .ensures) (brace-is (λ q. parseSingleNode ((c .before .before .before .before .before .before .before .before .before .before .before .before .before .before .before .before .before .before .before .before .before .before .before .before .before .args) .depth) ((c .before .before .before .before .before .before .before .before .before .before .before .before .before .before .before .before .before .before .before .before .before .before .before .before .before .args) .s .now) q) ((c .before .before .before .before .before .before .before .before .before .before .before .before .before .before .before .before .before .before .before .before .before .before .before .before .before .args) .s .now) ((c .before .before .before .before .before .before .before .before .before .before .before .before .before .before .before .before .before .before .before .before .before .before .before .before .before .args) .p) ((c .before .before .before .before .before .before .before .before .before .before .before .before .before .before .before .before .before .before .before .before .before .before .next-token) .ensures) ((c .before .before .before .before .before .before .before .before .before .before .before .before .before .before .before .before .before .before .before .before .before .before .before .before .before .args) .k) ((c .before .before .before .before .before .before .before .before .before .before .before .before .before .before .before .before .before .before .before .before .before .before .before .before .before .args) .mark) ((c .before .before .before .before .before .before .before .before .before .before .before .before .before .before .before .before .before .before .before .before .before .before .before .before .before .args) .x) (g .is) (sym ((c .before .before .before .before .before .before .before .before .before .before .before .before .before .before .peek-token-is) .ensures) ∙ not-false _ ((c .before .before .before .before .before .before .before .before .before .before .before .before .before .if1) .left)) ((c .before .before .before .before .before .before .before .before .before .before .before .before .next-token2) .ensures) ((c .before .before .before .before .before .before .before .before .before .before .before .next-token3) .ensures) (h .is))
 
 abbrev parse-group-Inv-loop : parse-group-lts.InvT-loop
-parse-group-Inv-loop s store₀ depth end q₀ first₀ last₀ count₀ store q first last count =
-    (length store ≡ length store₀) × GroupLoop s (λ x. parseNode depth s x) end q₀ store₀ store q first last count
+parse-group-Inv-loop s store₀ depth end table q₀ first₀ last₀ count₀ store q first last count =
+    (length store ≡ length store₀) × GroupLoop table s (λ x. parseNode depth s x) end q₀ store₀ store q first last count
 
 abbrev parse-group-μ-loop : parse-group-lts.MeasureT-loop
-parse-group-μ-loop s store₀ depth end q₀ first₀ last₀ count₀ store q first last count =
+parse-group-μ-loop s store₀ depth end table q₀ first₀ last₀ count₀ store q first last count =
     length s - q .cur .start
 
 parse-group-next-token-requires : (t : ℕ) → parse-group-lts.Need-next-token-requires (parse-group-calls t) (parse-group-at t) parse-group.Post parse-group-Inv-loop parse-group-μ-loop
-parse-group-next-token-requires t c κs = (c .before .before .pre) .1 .0 .sound .peek .inside
+parse-group-next-token-requires t c κs = let n = (c .before .before .pre) .1 .0 in
+    (n .sound .peek .inside, n .table)
 
 parse-group-loop-holds : (t : ℕ) → parse-group-lts.Need-loop-holds (parse-group-calls t) (parse-group-at t) parse-group.Post parse-group-Inv-loop parse-group-μ-loop
 parse-group-loop-holds t c =
@@ -958,7 +965,8 @@ parse-group-add-count t c =
 parse-group-next-token-requires-2 : (t : ℕ) → parse-group-lts.Need-next-token-requires-2 (parse-group-calls t) (parse-group-at t) parse-group.Post parse-group-Inv-loop parse-group-μ-loop
 parse-group-next-token-requires-2 t c κs =
     let g = rw ((c .before .before .before .before .before .i) .given .1) at ((c .before .before .before .before .before .before .before .before .before .parse-node) .ensures) in
-    (more-ends ((c .before .before .before .before .before .before .before .before .before .before .before .before .before .before .before .loop) .inv .1) (node-keeps ((c .before .before .before .before .before .before .before .before .before .before .before .before .before .before .before .before .before .before .before .args) .depth) ((c .before .before .before .before .before .before .before .before .before .before .before .before .before .before .before .before .before .before .before .args) .s .now)) (sym ((c .before .before .before .before .before .before .before .before .before .before .before .before .before .before .cur-token-is) .ensures) ∙ (c .before .before .before .before .before .before .before .before .before .before .before .before .before .if1) .left) ((c .before .before .before .before .before .before .before .before .before .parse-node) .kept .1 .0) g) .sound .peek .inside
+    let n = (more-ends ((c .before .before .before .before .before .before .before .before .before .before .before .before .before .before .before .loop) .inv .1) (node-keeps ((c .before .before .before .before .before .before .before .before .before .before .before .before .before .before .before .before .before .before .before .args) .depth) ((c .before .before .before .before .before .before .before .before .before .before .before .before .before .before .before .before .before .before .before .args) .s .now)) (sym ((c .before .before .before .before .before .before .before .before .before .before .before .before .before .before .cur-token-is) .ensures) ∙ (c .before .before .before .before .before .before .before .before .before .before .before .before .before .if1) .left) ((c .before .before .before .before .before .before .before .before .before .parse-node) .kept .1 .0) g) in
+    (n .sound .peek .inside, n .table)
 
 parse-group-loop-less : (t : ℕ) → parse-group-lts.Need-loop-less (parse-group-calls t) (parse-group-at t) parse-group.Post parse-group-Inv-loop parse-group-μ-loop
 parse-group-loop-less t c =
@@ -974,7 +982,8 @@ parse-group-loop-again t c =
     ((c .before .before .before .append) .kept .0 ∙ (c .before .before .before .before .before .before .before .before .before .before .parse-node) .kept .1 .0 ∙ (c .before .before .before .before .before .before .before .before .before .before .before .before .before .before .before .before .loop) .inv .0, group-turns (λ q. parseNode ((c .before .before .before .before .before .before .before .before .before .before .before .before .before .before .before .before .before .before .before .before .args) .depth) ((c .before .before .before .before .before .before .before .before .before .before .before .before .before .before .before .before .before .before .before .before .args) .s .now) q) ((c .before .before .before .before .before .before .before .before .before .before .before .before .before .before .before .before .before .before .before .before .args) .s .now) ((c .before .before .before .before .before .before .before .before .before .before .before .before .before .before .before .before .before .before .before .before .args) .end) ((c .before .before .before .before .before .before .before .before .before .before .before .before .before .before .before .before .loop) .inv .1) (node-keeps ((c .before .before .before .before .before .before .before .before .before .before .before .before .before .before .before .before .before .before .before .before .args) .depth) ((c .before .before .before .before .before .before .before .before .before .before .before .before .before .before .before .before .before .before .before .before .args) .s .now)) (sym ((c .before .before .before .before .before .before .before .before .before .before .before .before .before .before .before .cur-token-is) .ensures) ∙ (c .before .before .before .before .before .before .before .before .before .before .before .before .before .before .if1) .left) ((c .before .before .before .before .before .before .before .before .before .before .parse-node) .kept .1 .0) g _ _ _ ((c .before .before .before .append) .kept .0) (sym ((c .before .before .before .before .before .before .before .before .before .before .before .before .before .cur-token-is2) .ensures) ∙ (c .before .before .before .before .before .before .before .before .before .before .before .before .if2) .left) ((c .before .before .before .append) .ensures) ((c .next-token2) .ensures))
 
 parse-left-next-token-requires : (t : ℕ) → parse-left-lts.Need-next-token-requires (parse-left-calls t) (parse-left-at t) parse-left.Post
-parse-left-next-token-requires t c κs = (c .before .before .pre) .1 .0 .sound .peek .inside
+parse-left-next-token-requires t c κs = let n = (c .before .before .pre) .1 .0 in
+    (n .sound .peek .inside, n .table)
 
 parse-left-fence-of-requires : (t : ℕ) → parse-left-lts.Need-fence-of-requires (parse-left-calls t) (parse-left-at t) parse-left.Post
 parse-left-fence-of-requires t c κs = search needs
@@ -1001,7 +1010,8 @@ parse-left-next-token-requires-2 : (t : ℕ) → parse-left-lts.Need-next-token-
 unfolding markNumber
 parse-left-next-token-requires-2 t c κs =
     let g = rw ((c .before .content) .given .1) at ((c .before .before .before .before .before .parse-group) .ensures) in
-    (group-ends ((c .before .before .before .before .before .parse-group) .kept .1 .0) Mark.Right (ends-next (ready-ends ((c .before .before .before .before .before .before .before .before .before .before .before .before .before .before .before .pre) .1 .0) ((c .before .before .before .before .before .before .before .before .before .before .before .before .before .before .before .pre) .1 .1)) ((c .before .before .before .before .before .before .before .before .before .before .before .before .next-token) .ensures)) (node-keeps ((c .before .before .before .before .before .before .before .before .before .before .before .before .before .before .before .args) .depth) ((c .before .before .before .before .before .before .before .before .before .before .before .before .before .before .before .args) .s .now)) (lit≤ tt) g) .sound .peek .inside
+    let n = (group-ends ((c .before .before .before .before .before .parse-group) .kept .1 .0) Mark.Right (ends-next (ready-ends ((c .before .before .before .before .before .before .before .before .before .before .before .before .before .before .before .pre) .1 .0) ((c .before .before .before .before .before .before .before .before .before .before .before .before .before .before .before .pre) .1 .1)) ((c .before .before .before .before .before .before .before .before .before .before .before .before .next-token) .ensures)) (node-keeps ((c .before .before .before .before .before .before .before .before .before .before .before .before .before .before .before .args) .depth) ((c .before .before .before .before .before .before .before .before .before .before .before .before .before .before .before .args) .s .now)) (lit≤ tt) g) in
+    (n .sound .peek .inside, n .table)
 
 parse-left-make-fenced-requires : (t : ℕ) → parse-left-lts.Need-make-fenced-requires (parse-left-calls t) (parse-left-at t) parse-left.Post
 unfolding markNumber
@@ -1046,12 +1056,12 @@ parse-lim-returns t c =
     after-none _ _ ((c .before .before .before .before .before .before .before .before .args) .p) ((c .before .before .before .before .before .before .before .before .args) .p) _ _ ((c .before .before .make-leaf) .result) refl ((c .before .before .make-leaf) .ensures) (lim-alone (λ q. parseSingleNode ((c .before .before .before .before .before .before .before .before .args) .depth) ((c .before .before .before .before .before .before .before .before .args) .s .now) q) ((c .before .before .before .before .before .before .before .before .args) .s .now) ((c .before .before .before .before .before .before .before .before .args) .p) ((c .before .before .before .before .before .before .before .before .args) .t) (sym ((c .before .before .before .before .before .peek-token-is) .ensures) ∙ not-true _ ((c .before .before .before .before .if1) .taken)))
 
 parse-lim-next-token-requires : (t : ℕ) → parse-lim-lts.Need-next-token-requires (parse-lim-calls t) (parse-lim-at t) parse-lim.Post
-parse-lim-next-token-requires t c κs =
-    (c .before .before .before .before .pre) .1 .0 .sound .peek .inside
+parse-lim-next-token-requires t c κs = let n = (c .before .before .before .before .pre) .1 .0 in
+    (n .sound .peek .inside, n .table)
 
 parse-lim-next-token-requires-2 : (t : ℕ) → parse-lim-lts.Need-next-token-requires-2 (parse-lim-calls t) (parse-lim-at t) parse-lim.Post
-parse-lim-next-token-requires-2 t c κs =
-    (ends-next (ready-ends ((c .before .before .before .before .before .pre) .1 .0) ((c .before .before .before .before .before .pre) .1 .1)) ((c .next-token) .ensures)) .sound .peek .inside
+parse-lim-next-token-requires-2 t c κs = let n = (ends-next (ready-ends ((c .before .before .before .before .before .pre) .1 .0) ((c .before .before .before .before .before .pre) .1 .1)) ((c .next-token) .ensures)) in
+    (n .sound .peek .inside, n .table)
 
 parse-lim-parse-single-node-requires : (t : ℕ) → parse-lim-lts.Need-parse-single-node-requires (parse-lim-calls t) (parse-lim-at t) parse-lim.Post
 unfolding markNumber
@@ -1101,12 +1111,12 @@ parse-limits-enum-known-over : (t : ℕ) → parse-limits-lts.Need-enum-known-ov
 parse-limits-enum-known-over t c = search needs
 
 parse-limits-next-token-requires : (t : ℕ) → parse-limits-lts.Need-next-token-requires (parse-limits-calls t) (parse-limits-at t) parse-limits.Post
-parse-limits-next-token-requires t c κs =
-    (c .before .before .before .before .before .before .before .pre) .1 .0 .sound .peek .inside
+parse-limits-next-token-requires t c κs = let n = (c .before .before .before .before .before .before .before .pre) .1 .0 in
+    (n .sound .peek .inside, n .table)
 
 parse-limits-next-token-requires-2 : (t : ℕ) → parse-limits-lts.Need-next-token-requires-2 (parse-limits-calls t) (parse-limits-at t) parse-limits.Post
-parse-limits-next-token-requires-2 t c κs =
-    (ends-next (ready-ends ((c .before .before .before .before .before .before .before .before .pre) .1 .0) ((c .before .before .before .before .before .before .before .before .pre) .1 .1)) ((c .next-token) .ensures)) .sound .peek .inside
+parse-limits-next-token-requires-2 t c κs = let n = (ends-next (ready-ends ((c .before .before .before .before .before .before .before .before .pre) .1 .0) ((c .before .before .before .before .before .before .before .before .pre) .1 .1)) ((c .next-token) .ensures)) in
+    (n .sound .peek .inside, n .table)
 
 parse-limits-parse-single-node-requires :
     (t : ℕ) → parse-limits-lts.Need-parse-single-node-requires (parse-limits-calls t) (parse-limits-at t) parse-limits.Post
@@ -1142,12 +1152,14 @@ parse-limits-returns t c =
 parse-limits-next-token-requires-3 : (t : ℕ) → parse-limits-lts.Need-next-token-requires-3 (parse-limits-calls t) (parse-limits-at t) parse-limits.Post
 parse-limits-next-token-requires-3 t c κs =
     let g = rw ((c .before .before .before .before .x) .given .1) at ((c .before .before .before .before .before .before .before .before .parse-single-node) .ensures) in
-    (node-ends ((c .before .before .before .before .before .before .before .before .parse-single-node) .kept .1 .0) 7 (ends-mark (scriptMark ((c .before .before .before .before .before .before .before .before .before .before .before .before .before .over) .given .0 .0)) (ready-ends ((c .before .before .before .before .before .before .before .before .before .before .before .before .before .before .before .before .before .before .before .pre) .1 .0) ((c .before .before .before .before .before .before .before .before .before .before .before .before .before .before .before .before .before .before .before .pre) .1 .1)) (script-mark _ ((c .before .before .before .before .before .before .before .before .before .before .before .before .before .over) .given .0 .0) (sym ((c .before .before .before .before .before .before .before .before .before .before .before .before .before .before .before .script-of) .ensures) ∙ (c .before .before .before .before .before .before .before .before .before .before .before .before .before .over) .given .1)) (script-byte ((c .before .before .before .before .before .before .before .before .before .before .before .before .before .over) .given .0 .0)) ((c .before .before .before .before .before .before .before .before .before .before .before .next-token) .ensures) ((c .before .before .before .before .before .before .before .before .before .before .next-token2) .ensures)) (omega arith) (single-keeps ((c .before .before .before .before .before .before .before .before .before .before .before .before .before .before .before .before .before .before .before .args) .depth) ((c .before .before .before .before .before .before .before .before .before .before .before .before .before .before .before .before .before .before .before .args) .s .now)) g) .sound .peek .inside
+    let n = (node-ends ((c .before .before .before .before .before .before .before .before .parse-single-node) .kept .1 .0) 7 (ends-mark (scriptMark ((c .before .before .before .before .before .before .before .before .before .before .before .before .before .over) .given .0 .0)) (ready-ends ((c .before .before .before .before .before .before .before .before .before .before .before .before .before .before .before .before .before .before .before .pre) .1 .0) ((c .before .before .before .before .before .before .before .before .before .before .before .before .before .before .before .before .before .before .before .pre) .1 .1)) (script-mark _ ((c .before .before .before .before .before .before .before .before .before .before .before .before .before .over) .given .0 .0) (sym ((c .before .before .before .before .before .before .before .before .before .before .before .before .before .before .before .script-of) .ensures) ∙ (c .before .before .before .before .before .before .before .before .before .before .before .before .before .over) .given .1)) (script-byte ((c .before .before .before .before .before .before .before .before .before .before .before .before .before .over) .given .0 .0)) ((c .before .before .before .before .before .before .before .before .before .before .before .next-token) .ensures) ((c .before .before .before .before .before .before .before .before .before .before .next-token2) .ensures)) (omega arith) (single-keeps ((c .before .before .before .before .before .before .before .before .before .before .before .before .before .before .before .before .before .before .before .args) .depth) ((c .before .before .before .before .before .before .before .before .before .before .before .before .before .before .before .before .before .before .before .args) .s .now)) g) in
+    (n .sound .peek .inside, n .table)
 
 parse-limits-next-token-requires-4 : (t : ℕ) → parse-limits-lts.Need-next-token-requires-4 (parse-limits-calls t) (parse-limits-at t) parse-limits.Post
 parse-limits-next-token-requires-4 t c κs =
     let g = rw ((c .before .before .before .before .before .x) .given .1) at ((c .before .before .before .before .before .before .before .before .before .parse-single-node) .ensures) in
-    (ends-next (node-ends ((c .before .before .before .before .before .before .before .before .before .parse-single-node) .kept .1 .0) 7 (ends-mark (scriptMark ((c .before .before .before .before .before .before .before .before .before .before .before .before .before .before .over) .given .0 .0)) (ready-ends ((c .before .before .before .before .before .before .before .before .before .before .before .before .before .before .before .before .before .before .before .before .pre) .1 .0) ((c .before .before .before .before .before .before .before .before .before .before .before .before .before .before .before .before .before .before .before .before .pre) .1 .1)) (script-mark _ ((c .before .before .before .before .before .before .before .before .before .before .before .before .before .before .over) .given .0 .0) (sym ((c .before .before .before .before .before .before .before .before .before .before .before .before .before .before .before .before .script-of) .ensures) ∙ (c .before .before .before .before .before .before .before .before .before .before .before .before .before .before .over) .given .1)) (script-byte ((c .before .before .before .before .before .before .before .before .before .before .before .before .before .before .over) .given .0 .0)) ((c .before .before .before .before .before .before .before .before .before .before .before .before .next-token) .ensures) ((c .before .before .before .before .before .before .before .before .before .before .before .next-token2) .ensures)) (omega arith) (single-keeps ((c .before .before .before .before .before .before .before .before .before .before .before .before .before .before .before .before .before .before .before .before .args) .depth) ((c .before .before .before .before .before .before .before .before .before .before .before .before .before .before .before .before .before .before .before .before .args) .s .now)) g) ((c .next-token3) .ensures)) .sound .peek .inside
+    let n = (ends-next (node-ends ((c .before .before .before .before .before .before .before .before .before .parse-single-node) .kept .1 .0) 7 (ends-mark (scriptMark ((c .before .before .before .before .before .before .before .before .before .before .before .before .before .before .over) .given .0 .0)) (ready-ends ((c .before .before .before .before .before .before .before .before .before .before .before .before .before .before .before .before .before .before .before .before .pre) .1 .0) ((c .before .before .before .before .before .before .before .before .before .before .before .before .before .before .before .before .before .before .before .before .pre) .1 .1)) (script-mark _ ((c .before .before .before .before .before .before .before .before .before .before .before .before .before .before .over) .given .0 .0) (sym ((c .before .before .before .before .before .before .before .before .before .before .before .before .before .before .before .before .script-of) .ensures) ∙ (c .before .before .before .before .before .before .before .before .before .before .before .before .before .before .over) .given .1)) (script-byte ((c .before .before .before .before .before .before .before .before .before .before .before .before .before .before .over) .given .0 .0)) ((c .before .before .before .before .before .before .before .before .before .before .before .before .next-token) .ensures) ((c .before .before .before .before .before .before .before .before .before .before .before .next-token2) .ensures)) (omega arith) (single-keeps ((c .before .before .before .before .before .before .before .before .before .before .before .before .before .before .before .before .before .before .before .before .args) .depth) ((c .before .before .before .before .before .before .before .before .before .before .before .before .before .before .before .before .before .before .before .before .args) .s .now)) g) ((c .next-token3) .ensures)) in
+    (n .sound .peek .inside, n .table)
 
 parse-limits-parse-single-node-requires-2 :
     (t : ℕ) → parse-limits-lts.Need-parse-single-node-requires-2 (parse-limits-calls t) (parse-limits-at t) parse-limits.Post
@@ -1204,7 +1216,8 @@ parse-limits-returns-5 t c =
     after-two _ _ ((c .before .before .before .before .before .before .before .before .before .before .before .before .before .before .before .before .before .before .before .before .before .before .before .before .before .before .before .before .before .before .before .before .args) .p) _ _ _ _ ((next-made ((c .before .before .before .before .before .before .before .before .before .before .before .before .before .before .before .before .before .before .before .before .before .before .before .before .before .before .before .before .before .before .before .before .args) .s .now) _ ((c .before .before .before .before .before .before .before .before .before .before .before .before .before .before .before .before .before .before .before .before .before .before .before .next-token2) .ensures)) ∙ (next-made ((c .before .before .before .before .before .before .before .before .before .before .before .before .before .before .before .before .before .before .before .before .before .before .before .before .before .before .before .before .before .before .before .before .args) .s .now) ((c .before .before .before .before .before .before .before .before .before .before .before .before .before .before .before .before .before .before .before .before .before .before .before .before .before .before .before .before .before .before .before .before .args) .p) ((c .before .before .before .before .before .before .before .before .before .before .before .before .before .before .before .before .before .before .before .before .before .before .before .before .next-token) .ensures))) g _ _ _ _ _ ((next-made ((c .before .before .before .before .before .before .before .before .before .before .before .before .before .before .before .before .before .before .before .before .before .before .before .before .before .before .before .before .before .before .before .before .args) .s .now) _ ((c .before .before .before .before .before .before .before .before .before .before .before .next-token4) .ensures)) ∙ (next-made ((c .before .before .before .before .before .before .before .before .before .before .before .before .before .before .before .before .before .before .before .before .before .before .before .before .before .before .before .before .before .before .before .before .args) .s .now) _ ((c .before .before .before .before .before .before .before .before .before .before .before .before .next-token3) .ensures))) h _ _ _ _ ((c .before .before .make-limits) .result) refl ((c .before .before .make-limits) .ensures) (limits-is (λ q. parseSingleNode ((c .before .before .before .before .before .before .before .before .before .before .before .before .before .before .before .before .before .before .before .before .before .before .before .before .before .before .before .before .before .before .before .before .args) .depth) ((c .before .before .before .before .before .before .before .before .before .before .before .before .before .before .before .before .before .before .before .before .before .before .before .before .before .before .before .before .before .before .before .before .args) .s .now) q) ((c .before .before .before .before .before .before .before .before .before .before .before .before .before .before .before .before .before .before .before .before .before .before .before .before .before .before .before .before .before .before .before .before .args) .s .now) ((c .before .before .before .before .before .before .before .before .before .before .before .before .before .before .before .before .before .before .before .before .before .before .before .before .before .before .before .before .before .before .before .before .args) .k) ((c .before .before .before .before .before .before .before .before .before .before .before .before .before .before .before .before .before .before .before .before .before .before .before .before .before .before .before .before .before .before .before .before .args) .p) ((c .before .before .before .before .before .before .before .before .before .before .before .before .before .before .before .before .before .before .before .before .before .before .before .before .next-token) .ensures) ((c .before .before .before .before .before .before .before .before .before .before .before .before .before .before .before .before .before .before .before .before .before .before .before .next-token2) .ensures) (g .is) ((c .before .before .before .before .before .before .before .before .before .before .before .before .next-token3) .ensures) ((c .before .before .before .before .before .before .before .before .before .before .before .next-token4) .ensures) ((c .before .before .before .before .before .before .before .before .before .before .before .before .before .before .before .before .before .before .before .before .before .before .before .before .before .before .over) .given .0 .0) (sym ((c .before .before .before .before .before .before .before .before .before .before .before .before .before .before .before .before .before .before .before .before .before .before .before .before .before .before .before .before .script-of) .ensures) ∙ (c .before .before .before .before .before .before .before .before .before .before .before .before .before .before .before .before .before .before .before .before .before .before .before .before .before .before .over) .given .1) (rw ((c .before .before .before .before .before .before .before .before .before .before .before .before .before .before .before .other-limit) .ensures) at (sym ((c .before .before .before .before .before .before .before .before .before .before .before .before .before .before .peek-token-is) .ensures) ∙ not-false _ ((c .before .before .before .before .before .before .before .before .before .before .before .before .before .if1) .left))) (h .is))
 
 parse-middle-next-token-requires : (t : ℕ) → parse-middle-lts.Need-next-token-requires (parse-middle-calls t) (parse-middle-at t) parse-middle.Post
-parse-middle-next-token-requires t c κs = (c .before .before .pre) .1 .0 .sound .peek .inside
+parse-middle-next-token-requires t c κs = let n = (c .before .before .pre) .1 .0 in
+    (n .sound .peek .inside, n .table)
 
 parse-middle-parse-single-node-requires :
     (t : ℕ) → parse-middle-lts.Need-parse-single-node-requires (parse-middle-calls t) (parse-middle-at t) parse-middle.Post
@@ -1287,12 +1300,14 @@ parse-node-enum-known-over t c = search needs
 parse-node-next-token-requires : (t : ℕ) → parse-node-lts.Need-next-token-requires (parse-node-calls t) (parse-node-at t) parse-node.Post
 parse-node-next-token-requires t c κs =
     let g = rw ((c .before .before .before .before .before .before .left) .given .1) at ((c .before .before .before .before .before .before .before .before .before .before .parse-single-node) .ensures) in
-    (ready-node ((c .before .before .before .before .before .before .before .before .before .before .parse-single-node) .kept .1 .0) ((c .before .before .before .before .before .before .before .before .before .before .before .before .before .before .before .before .before .before .before .pre) .1) (single-keeps (((c .before .before .before .before .before .before .before .before .before .before .before .before .before .before .before .before .before .before .before .args) .depth) - 1) ((c .before .before .before .before .before .before .before .before .before .before .before .before .before .before .before .before .before .before .before .args) .s .now)) g) .sound .peek .inside
+    let n = (ready-node ((c .before .before .before .before .before .before .before .before .before .before .parse-single-node) .kept .1 .0) ((c .before .before .before .before .before .before .before .before .before .before .before .before .before .before .before .before .before .before .before .pre) .1) (single-keeps (((c .before .before .before .before .before .before .before .before .before .before .before .before .before .before .before .before .before .before .before .args) .depth) - 1) ((c .before .before .before .before .before .before .before .before .before .before .before .before .before .before .before .before .before .before .before .args) .s .now)) g) in
+    (n .sound .peek .inside, n .table)
 
 parse-node-next-token-requires-2 : (t : ℕ) → parse-node-lts.Need-next-token-requires-2 (parse-node-calls t) (parse-node-at t) parse-node.Post
 parse-node-next-token-requires-2 t c κs =
     let g = rw ((c .before .before .before .before .before .before .before .left) .given .1) at ((c .before .before .before .before .before .before .before .before .before .before .before .parse-single-node) .ensures) in
-    (ends-next (ready-node ((c .before .before .before .before .before .before .before .before .before .before .before .parse-single-node) .kept .1 .0) ((c .before .before .before .before .before .before .before .before .before .before .before .before .before .before .before .before .before .before .before .before .pre) .1) (single-keeps (((c .before .before .before .before .before .before .before .before .before .before .before .before .before .before .before .before .before .before .before .before .args) .depth) - 1) ((c .before .before .before .before .before .before .before .before .before .before .before .before .before .before .before .before .before .before .before .before .args) .s .now)) g) ((c .next-token) .ensures)) .sound .peek .inside
+    let n = (ends-next (ready-node ((c .before .before .before .before .before .before .before .before .before .before .before .parse-single-node) .kept .1 .0) ((c .before .before .before .before .before .before .before .before .before .before .before .before .before .before .before .before .before .before .before .before .pre) .1) (single-keeps (((c .before .before .before .before .before .before .before .before .before .before .before .before .before .before .before .before .before .before .before .before .args) .depth) - 1) ((c .before .before .before .before .before .before .before .before .before .before .before .before .before .before .before .before .before .before .before .before .args) .s .now)) g) ((c .next-token) .ensures)) in
+    (n .sound .peek .inside, n .table)
 
 parse-node-sub-parse-node : (t : ℕ) → parse-node-lts.Need-sub-parse-node (parse-node-calls t) (parse-node-at t) parse-node.Post
 parse-node-sub-parse-node t c =
@@ -1358,7 +1373,8 @@ parse-node-returns-6 t c =
     after-two _ _ ((c .before .before .before .before .before .before .before .before .before .before .before .before .before .before .before .before .before .before .before .before .before .before .before .before .before .before .before .before .before .before .before .before .before .args) .p) _ _ _ _ refl g _ _ _ _ _ (next-made ((c .before .before .before .before .before .before .before .before .before .before .before .before .before .before .before .before .before .before .before .before .before .before .before .before .before .before .before .before .before .before .before .before .before .args) .s .now) _ ((c .before .before .before .before .before .before .before .before .before .before .before .before .next-token2) .ensures) ∙ next-made ((c .before .before .before .before .before .before .before .before .before .before .before .before .before .before .before .before .before .before .before .before .before .before .before .before .before .before .before .before .before .before .before .before .before .args) .s .now) _ ((c .before .before .before .before .before .before .before .before .before .before .before .before .before .next-token) .ensures)) h _ _ _ _ ((c .before .before .make-two) .result) refl (rw ((c .before .before .before .script-kind) .ensures) at ((c .before .before .make-two) .ensures)) (node-more ((c .before .before .before .before .before .before .before .before .before .before .before .before .before .before .before .before .before .before .before .before .before .before .before .before .before .before .before .before .before .before .before .before .before .args) .depth) ((c .before .before .before .before .before .before .before .before .before .before .before .before .before .before .before .before .before .before .before .before .before .before .before .before .before .before .before .before .before .before .before .before .before .args) .s .now) ((c .before .before .before .before .before .before .before .before .before .before .before .before .before .before .before .before .before .before .before .before .before .before .before .before .before .before .before .before .before .before .before .before .before .args) .p) ((c .before .before .before .before .before .before .before .before .before .before .before .before .before .before .before .before .before .before .before .before .before .before .before .before .before .before .before .before .before .before .if1) .left) ∙ script-is (λ q. parseNode (((c .before .before .before .before .before .before .before .before .before .before .before .before .before .before .before .before .before .before .before .before .before .before .before .before .before .before .before .before .before .before .before .before .before .args) .depth) - 1) ((c .before .before .before .before .before .before .before .before .before .before .before .before .before .before .before .before .before .before .before .before .before .before .before .before .before .before .before .before .before .before .before .before .before .args) .s .now) q) (λ q. parseSingleNode (((c .before .before .before .before .before .before .before .before .before .before .before .before .before .before .before .before .before .before .before .before .before .before .before .before .before .before .before .before .before .before .before .before .before .args) .depth) - 1) ((c .before .before .before .before .before .before .before .before .before .before .before .before .before .before .before .before .before .before .before .before .before .before .before .before .before .before .before .before .before .before .before .before .before .args) .s .now) q) ((c .before .before .before .before .before .before .before .before .before .before .before .before .before .before .before .before .before .before .before .before .before .before .before .before .before .before .before .before .before .before .before .before .before .args) .s .now) ((c .before .before .before .before .before .before .before .before .before .before .before .before .before .before .before .before .before .before .before .before .before .before .before .before .before .before .before .before .before .before .before .before .before .args) .p) (g .is) ((c .before .before .before .before .before .before .before .before .before .before .before .before .before .before .before .over) .given .0 .0) (sym ((c .before .before .before .before .before .before .before .before .before .before .before .before .before .before .before .before .before .script-of) .ensures) ∙ (c .before .before .before .before .before .before .before .before .before .before .before .before .before .before .before .over) .given .1) ((c .before .before .before .before .before .before .before .before .before .before .before .before .before .next-token) .ensures) ((c .before .before .before .before .before .before .before .before .before .before .before .before .next-token2) .ensures) (h .is))
 
 parse-one-next-token-requires : (t : ℕ) → parse-one-lts.Need-next-token-requires (parse-one-calls t) (parse-one-at t) parse-one.Post
-parse-one-next-token-requires t c κs = (c .before .before .pre) .1 .0 .sound .peek .inside
+parse-one-next-token-requires t c κs = let n = (c .before .before .pre) .1 .0 in
+    (n .sound .peek .inside, n .table)
 
 parse-one-parse-node-requires : (t : ℕ) → parse-one-lts.Need-parse-node-requires (parse-one-calls t) (parse-one-at t) parse-one.Post
 parse-one-parse-node-requires t c κs =
@@ -1416,7 +1432,7 @@ parse-single-node-finish-prime-requires :
 parse-single-node-finish-prime-requires t c κs =
     let g = rw ((c .before .before .n) .given .1) at ((c .before .before .before .before .before .before .parse-bare) .ensures) in
     let e = (ready-node ((c .before .before .before .before .before .before .parse-bare) .kept .1 .0) ((c .before .before .before .before .before .before .before .before .before .before .before .pre) .1) (bare-keeps (((c .before .before .before .before .before .before .before .before .before .before .before .args) .depth) - 1) ((c .before .before .before .before .before .before .before .before .before .before .before .args) .s .now)) g) in
-    (e .sound .peek .inside, prime-free e, g .below)
+    (e .sound .peek .inside, prime-free e, g .below, e .table)
 
 parse-single-node-same-length : (t : ℕ) → parse-single-node-lts.Need-same-length (parse-single-node-calls t) (parse-single-node-at t) parse-single-node.Post
 parse-single-node-same-length t c = search needs
@@ -1435,11 +1451,12 @@ parse-single-node-returns-3 t c =
     after-one _ _ ((c .before .before .before .before .before .before .before .before .before .before .before .before .before .before .args) .p) _ _ _ _ refl g _ _ _ _ ((c .before .before .finish-prime) .result) refl ((c .before .before .finish-prime) .ensures) (single-more ((c .before .before .before .before .before .before .before .before .before .before .before .before .before .before .args) .depth) ((c .before .before .before .before .before .before .before .before .before .before .before .before .before .before .args) .s .now) ((c .before .before .before .before .before .before .before .before .before .before .before .before .before .before .args) .p) ((c .before .before .before .before .before .before .before .before .before .before .before .if1) .left) ∙ bare-is (λ q. parseNode (((c .before .before .before .before .before .before .before .before .before .before .before .before .before .before .args) .depth) - 1) ((c .before .before .before .before .before .before .before .before .before .before .before .before .before .before .args) .s .now) q) (λ q. parseSingleNode (((c .before .before .before .before .before .before .before .before .before .before .before .before .before .before .args) .depth) - 1) ((c .before .before .before .before .before .before .before .before .before .before .before .before .before .before .args) .s .now) q) ((c .before .before .before .before .before .before .before .before .before .before .before .before .before .before .args) .s .now) ((c .before .before .before .before .before .before .before .before .before .before .before .before .before .before .args) .p) (g .is))
 
 parse-slashed-next-token-requires : (t : ℕ) → parse-slashed-lts.Need-next-token-requires (parse-slashed-calls t) (parse-slashed-at t) parse-slashed.Post
-parse-slashed-next-token-requires t c κs = (c .before .before .pre) .1 .0 .sound .peek .inside
+parse-slashed-next-token-requires t c κs = let n = (c .before .before .pre) .1 .0 in
+    (n .sound .peek .inside, n .table)
 
 parse-slashed-next-token-requires-2 : (t : ℕ) → parse-slashed-lts.Need-next-token-requires-2 (parse-slashed-calls t) (parse-slashed-at t) parse-slashed.Post
-parse-slashed-next-token-requires-2 t c κs =
-    (ends-next (ready-ends ((c .before .before .before .pre) .1 .0) ((c .before .before .before .pre) .1 .1)) ((c .next-token) .ensures)) .sound .peek .inside
+parse-slashed-next-token-requires-2 t c κs = let n = (ends-next (ready-ends ((c .before .before .before .pre) .1 .0) ((c .before .before .before .pre) .1 .1)) ((c .next-token) .ensures)) in
+    (n .sound .peek .inside, n .table)
 
 parse-slashed-parse-node-requires : (t : ℕ) → parse-slashed-lts.Need-parse-node-requires (parse-slashed-calls t) (parse-slashed-at t) parse-slashed.Post
 parse-slashed-parse-node-requires t c κs =
@@ -1455,7 +1472,8 @@ parse-slashed-enum-known-a t c = search needs
 parse-slashed-next-token-requires-3 : (t : ℕ) → parse-slashed-lts.Need-next-token-requires-3 (parse-slashed-calls t) (parse-slashed-at t) parse-slashed.Post
 parse-slashed-next-token-requires-3 t c κs =
     let g = rw ((c .before .a) .given .1) at ((c .before .before .before .before .before .parse-node) .ensures) in
-    (node-ends ((c .before .before .before .before .before .parse-node) .kept .1 .0) 5 (starts-next (ends-next (ready-ends ((c .before .before .before .before .before .before .before .before .before .before .before .pre) .1 .0) ((c .before .before .before .before .before .before .before .before .before .before .before .pre) .1 .1)) ((c .before .before .before .before .before .before .before .before .next-token) .ensures)) ((c .before .before .before .before .before .before .before .next-token2) .ensures)) (omega arith) (node-keeps ((c .before .before .before .before .before .before .before .before .before .before .before .args) .depth) ((c .before .before .before .before .before .before .before .before .before .before .before .args) .s .now)) g) .sound .peek .inside
+    let n = (node-ends ((c .before .before .before .before .before .parse-node) .kept .1 .0) 5 (starts-next (ends-next (ready-ends ((c .before .before .before .before .before .before .before .before .before .before .before .pre) .1 .0) ((c .before .before .before .before .before .before .before .before .before .before .before .pre) .1 .1)) ((c .before .before .before .before .before .before .before .before .next-token) .ensures)) ((c .before .before .before .before .before .before .before .next-token2) .ensures)) (omega arith) (node-keeps ((c .before .before .before .before .before .before .before .before .before .before .before .args) .depth) ((c .before .before .before .before .before .before .before .before .before .before .before .args) .s .now)) g) in
+    (n .sound .peek .inside, n .table)
 
 parse-slashed-make-one-requires : (t : ℕ) → parse-slashed-lts.Need-make-one-requires (parse-slashed-calls t) (parse-slashed-at t) parse-slashed.Post
 parse-slashed-make-one-requires t c κs =
@@ -1481,7 +1499,8 @@ parse-slashed-returns-2 t c =
     after-one _ _ ((c .before .before .before .before .before .before .before .before .before .before .before .before .before .before .before .before .args) .p) _ _ _ _ ((next-made ((c .before .before .before .before .before .before .before .before .before .before .before .before .before .before .before .before .args) .s .now) _ ((c .before .before .before .before .before .before .before .before .before .before .before .before .next-token2) .ensures)) ∙ (next-made ((c .before .before .before .before .before .before .before .before .before .before .before .before .before .before .before .before .args) .s .now) ((c .before .before .before .before .before .before .before .before .before .before .before .before .before .before .before .before .args) .p) ((c .before .before .before .before .before .before .before .before .before .before .before .before .before .next-token) .ensures))) g _ _ _ _ ((c .before .before .make-one) .result) (next-made ((c .before .before .before .before .before .before .before .before .before .before .before .before .before .before .before .before .args) .s .now) _ ((c .before .before .before .before .next-token3) .ensures)) ((c .before .before .make-one) .ensures) (slashed-is (λ q. parseNode ((c .before .before .before .before .before .before .before .before .before .before .before .before .before .before .before .before .args) .depth) ((c .before .before .before .before .before .before .before .before .before .before .before .before .before .before .before .before .args) .s .now) q) ((c .before .before .before .before .before .before .before .before .before .before .before .before .before .before .before .before .args) .s .now) ((c .before .before .before .before .before .before .before .before .before .before .before .before .before .before .before .before .args) .p) ((c .before .before .before .before .before .before .before .before .before .before .before .before .before .next-token) .ensures) ((c .before .before .before .before .before .before .before .before .before .before .before .before .next-token2) .ensures) (g .is) ((c .before .before .before .before .next-token3) .ensures))
 
 parse-sqrt-next-token-requires : (t : ℕ) → parse-sqrt-lts.Need-next-token-requires (parse-sqrt-calls t) (parse-sqrt-at t) parse-sqrt.Post
-parse-sqrt-next-token-requires t c κs = (c .before .before .pre) .1 .0 .sound .peek .inside
+parse-sqrt-next-token-requires t c κs = let n = (c .before .before .pre) .1 .0 in
+    (n .sound .peek .inside, n .table)
 
 parse-sqrt-cur-token-is-requires : (t : ℕ) → parse-sqrt-lts.Need-cur-token-is-requires (parse-sqrt-calls t) (parse-sqrt-at t) parse-sqrt.Post
 parse-sqrt-cur-token-is-requires t c κs = search needs
@@ -1510,7 +1529,8 @@ parse-sqrt-next-token-requires-2 : (t : ℕ) → parse-sqrt-lts.Need-next-token-
 unfolding markNumber
 parse-sqrt-next-token-requires-2 t c κs =
     let g = rw ((c .before .degree) .given .1) at ((c .before .before .before .before .before .parse-group) .ensures) in
-    (group-ends ((c .before .before .before .before .before .parse-group) .kept .1 .0) Mark.RBracket (ends-next (ready-ends ((c .before .before .before .before .before .before .before .before .before .before .before .before .pre) .1 .0) ((c .before .before .before .before .before .before .before .before .before .before .before .before .pre) .1 .1)) ((c .before .before .before .before .before .before .before .before .before .next-token) .ensures)) (node-keeps ((c .before .before .before .before .before .before .before .before .before .before .before .before .args) .depth) ((c .before .before .before .before .before .before .before .before .before .before .before .before .args) .s .now)) (lit≤ tt) g) .sound .peek .inside
+    let n = (group-ends ((c .before .before .before .before .before .parse-group) .kept .1 .0) Mark.RBracket (ends-next (ready-ends ((c .before .before .before .before .before .before .before .before .before .before .before .before .pre) .1 .0) ((c .before .before .before .before .before .before .before .before .before .before .before .before .pre) .1 .1)) ((c .before .before .before .before .before .before .before .before .before .next-token) .ensures)) (node-keeps ((c .before .before .before .before .before .before .before .before .before .before .before .before .args) .depth) ((c .before .before .before .before .before .before .before .before .before .before .before .before .args) .s .now)) (lit≤ tt) g) in
+    (n .sound .peek .inside, n .table)
 
 parse-sqrt-parse-node-requires : (t : ℕ) → parse-sqrt-lts.Need-parse-node-requires (parse-sqrt-calls t) (parse-sqrt-at t) parse-sqrt.Post
 unfolding markNumber
@@ -1542,7 +1562,8 @@ parse-sqrt-make-two-requires t c κs =
     (ends-free 1 (node-ends ((c .before .before .before .before .before .before .parse-node) .kept .1 .0) 5 (ends-next (group-ends ((c .before .before .before .before .before .before .before .before .before .before .before .before .before .before .parse-group) .kept .1 .0) Mark.RBracket (ends-next (ready-ends ((c .before .before .before .before .before .before .before .before .before .before .before .before .before .before .before .before .before .before .before .before .before .pre) .1 .0) ((c .before .before .before .before .before .before .before .before .before .before .before .before .before .before .before .before .before .before .before .before .before .pre) .1 .1)) ((c .before .before .before .before .before .before .before .before .before .before .before .before .before .before .before .before .before .before .next-token) .ensures)) (node-keeps ((c .before .before .before .before .before .before .before .before .before .before .before .before .before .before .before .before .before .before .before .before .before .args) .depth) ((c .before .before .before .before .before .before .before .before .before .before .before .before .before .before .before .before .before .before .before .before .before .args) .s .now)) (lit≤ tt) g) ((c .before .before .before .before .before .before .before .before .next-token2) .ensures)) (omega arith) (node-keeps ((c .before .before .before .before .before .before .before .before .before .before .before .before .before .before .before .before .before .before .before .before .before .args) .depth) ((c .before .before .before .before .before .before .before .before .before .before .before .before .before .before .before .before .before .before .before .before .before .args) .s .now)) h) (omega arith), h .below, first-below _ _ ((c .before .before .before .before .before .before .before .before .before .before .before .before .before .before .before .before .before .before .before .before .before .args) .p) _ _ _ _ (next-made ((c .before .before .before .before .before .before .before .before .before .before .before .before .before .before .before .before .before .before .before .before .before .args) .s .now) ((c .before .before .before .before .before .before .before .before .before .before .before .before .before .before .before .before .before .before .before .before .before .args) .p) ((c .before .before .before .before .before .before .before .before .before .before .before .before .before .before .before .before .before .before .next-token) .ensures)) g _ _ _ _ _ (next-made ((c .before .before .before .before .before .before .before .before .before .before .before .before .before .before .before .before .before .before .before .before .before .args) .s .now) _ ((c .before .before .before .before .before .before .before .before .next-token2) .ensures)) h)
 
 parse-sqrt-same-length-3 : (t : ℕ) → parse-sqrt-lts.Need-same-length-3 (parse-sqrt-calls t) (parse-sqrt-at t) parse-sqrt.Post
-parse-sqrt-same-length-3 t c = search needs
+parse-sqrt-same-length-3 t c =
+    (c .before .before .make-two) .kept .0 ∙ (c .before .before .before .before .before .before .before .before .before .parse-node) .kept .1 .0 ∙ (c .before .before .before .before .before .before .before .before .before .before .before .before .before .before .before .before .before .parse-group) .kept .1 .0
 
 parse-sqrt-returns-3 : (t : ℕ) → parse-sqrt-lts.Need-returns-3 (parse-sqrt-calls t) (parse-sqrt-at t) parse-sqrt.Post
 parse-sqrt-returns-3 t c =
@@ -1583,7 +1604,8 @@ parse-sqrt-returns-5 t c =
     after-one _ _ ((c .before .before .before .before .before .before .before .before .before .before .before .before .before .before .before .before .args) .p) _ _ _ _ (next-made ((c .before .before .before .before .before .before .before .before .before .before .before .before .before .before .before .before .args) .s .now) ((c .before .before .before .before .before .before .before .before .before .before .before .before .before .before .before .before .args) .p) ((c .before .before .before .before .before .before .before .before .before .before .before .before .before .next-token) .ensures)) g _ _ _ _ ((c .before .before .make-one) .result) refl ((c .before .before .make-one) .ensures) (sqrt-is (λ q. parseNode ((c .before .before .before .before .before .before .before .before .before .before .before .before .before .before .before .before .args) .depth) ((c .before .before .before .before .before .before .before .before .before .before .before .before .before .before .before .before .args) .s .now) q) ((c .before .before .before .before .before .before .before .before .before .before .before .before .before .before .before .before .args) .s .now) ((c .before .before .before .before .before .before .before .before .before .before .before .before .before .before .before .before .args) .p) ((c .before .before .before .before .before .before .before .before .before .before .before .before .before .next-token) .ensures) (sym ((c .before .before .before .before .before .before .before .before .before .before .before .before .cur-token-is) .ensures) ∙ (c .before .before .before .before .before .before .before .before .before .before .before .if1) .left) (g .is))
 
 parse-style-next-token-requires : (t : ℕ) → parse-style-lts.Need-next-token-requires (parse-style-calls t) (parse-style-at t) parse-style.Post
-parse-style-next-token-requires t c κs = (c .before .before .pre) .1 .0 .sound .peek .inside
+parse-style-next-token-requires t c κs = let n = (c .before .before .pre) .1 .0 in
+    (n .sound .peek .inside, n .table)
 
 parse-style-parse-node-requires : (t : ℕ) → parse-style-lts.Need-parse-node-requires (parse-style-calls t) (parse-style-at t) parse-style.Post
 parse-style-parse-node-requires t c κs =
@@ -1621,7 +1643,8 @@ parse-style-returns-2 t c =
     after-set _ _ _ ((c .before .before .before .before .before .before .before .before .before .before .before .before .before .before .args) .p) _ _ _ _ _ ((c .before .before .before .before .before .before .before .before .before .before .before .before .before .before .args) .v) (next-made ((c .before .before .before .before .before .before .before .before .before .before .before .before .before .before .args) .s .now) ((c .before .before .before .before .before .before .before .before .before .before .before .before .before .before .args) .p) ((c .before .before .before .before .before .before .before .before .before .before .before .next-token) .ensures)) g ((c .before .before .set-variant) .ensures) (style-is (λ q. parseNode ((c .before .before .before .before .before .before .before .before .before .before .before .before .before .before .args) .depth) ((c .before .before .before .before .before .before .before .before .before .before .before .before .before .before .args) .s .now) q) ((c .before .before .before .before .before .before .before .before .before .before .before .before .before .before .args) .s .now) ((c .before .before .before .before .before .before .before .before .before .before .before .before .before .before .args) .p) ((c .before .before .before .before .before .before .before .before .before .before .before .next-token) .ensures) ((c .before .before .before .before .before .before .before .before .before .before .before .before .before .before .args) .v) (g .is))
 
 parse-two-next-token-requires : (t : ℕ) → parse-two-lts.Need-next-token-requires (parse-two-calls t) (parse-two-at t) parse-two.Post
-parse-two-next-token-requires t c κs = (c .before .before .pre) .1 .0 .sound .peek .inside
+parse-two-next-token-requires t c κs = let n = (c .before .before .pre) .1 .0 in
+    (n .sound .peek .inside, n .table)
 
 parse-two-parse-node-requires : (t : ℕ) → parse-two-lts.Need-parse-node-requires (parse-two-calls t) (parse-two-at t) parse-two.Post
 parse-two-parse-node-requires t c κs =
@@ -1637,7 +1660,8 @@ parse-two-enum-known-a t c = search needs
 parse-two-next-token-requires-2 : (t : ℕ) → parse-two-lts.Need-next-token-requires-2 (parse-two-calls t) (parse-two-at t) parse-two.Post
 parse-two-next-token-requires-2 t c κs =
     let g = rw ((c .before .a) .given .1) at ((c .before .before .before .before .before .parse-node) .ensures) in
-    (node-ends ((c .before .before .before .before .before .parse-node) .kept .1 .0) 5 (ends-next (ready-ends ((c .before .before .before .before .before .before .before .before .before .before .pre) .1 .0) ((c .before .before .before .before .before .before .before .before .before .before .pre) .1 .1)) ((c .before .before .before .before .before .before .before .next-token) .ensures)) (omega arith) (node-keeps ((c .before .before .before .before .before .before .before .before .before .before .args) .depth) ((c .before .before .before .before .before .before .before .before .before .before .args) .s .now)) g) .sound .peek .inside
+    let n = (node-ends ((c .before .before .before .before .before .parse-node) .kept .1 .0) 5 (ends-next (ready-ends ((c .before .before .before .before .before .before .before .before .before .before .pre) .1 .0) ((c .before .before .before .before .before .before .before .before .before .before .pre) .1 .1)) ((c .before .before .before .before .before .before .before .next-token) .ensures)) (omega arith) (node-keeps ((c .before .before .before .before .before .before .before .before .before .before .args) .depth) ((c .before .before .before .before .before .before .before .before .before .before .args) .s .now)) g) in
+    (n .sound .peek .inside, n .table)
 
 parse-two-parse-node-requires-2 : (t : ℕ) → parse-two-lts.Need-parse-node-requires-2 (parse-two-calls t) (parse-two-at t) parse-two.Post
 parse-two-parse-node-requires-2 t c κs =
@@ -1675,7 +1699,8 @@ parse-two-returns-2 t c =
     two-no-2 (λ q. parseNode ((c .before .before .before .before .before .before .before .before .before .before .before .before .before .before .before .before .before .before .args) .depth) ((c .before .before .before .before .before .before .before .before .before .before .before .before .before .before .before .before .before .before .args) .s .now) q) ((c .before .before .before .before .before .before .before .before .before .before .before .before .before .before .before .before .before .before .args) .s .now) ((c .before .before .before .before .before .before .before .before .before .before .before .before .before .before .before .before .before .before .args) .p) ((c .before .before .before .before .before .before .before .before .before .before .before .before .before .before .before .next-token) .ensures) (g .is) ((c .before .before .before .before .before .before .before .next-token2) .ensures) ((c .before .before .before .before .before .before .before .before .before .before .before .before .before .before .before .before .before .before .args) .k) h
 
 parse-two-same-length-3 : (t : ℕ) → parse-two-lts.Need-same-length-3 (parse-two-calls t) (parse-two-at t) parse-two.Post
-parse-two-same-length-3 t c = search needs
+parse-two-same-length-3 t c =
+    (c .before .before .make-pair) .kept .0 ∙ (c .before .before .before .before .before .before .before .before .before .parse-node2) .kept .1 .0 ∙ (c .before .before .before .before .before .before .before .before .before .before .before .before .before .before .before .before .before .parse-node) .kept .1 .0
 
 parse-two-returns-3 : (t : ℕ) → parse-two-lts.Need-returns-3 (parse-two-calls t) (parse-two-at t) parse-two.Post
 parse-two-returns-3 t c =

@@ -13,11 +13,11 @@ use Rattle.parser.proofs.takes_digit.Reads as takes-digit-reads
 takes-digit-requires : tie.Need-takes-digit-requires
 takes-digit-requires c κs = search needs
 
-add-t5 : tie.Need-add-t5
-add-t5 c = search needs
+add-t6 : tie.Need-add-t6
+add-t6 c = search needs
 
-add-t7 : tie.Need-add-t7
-add-t7 c = search needs
+add-t8 : tie.Need-add-t8
+add-t8 c = search needs
 
 returns : tie.Need-returns
 unfolding following
@@ -33,4 +33,4 @@ returns-2 c =
 
 pub following-spec : {M : Type 1} → statement M
 following-spec =
-    tie.close (tie.spec takes-digit-requires add-t5 add-t7 returns token-from-requires returns-2)
+    tie.close (tie.spec takes-digit-requires add-t6 add-t8 returns token-from-requires returns-2)

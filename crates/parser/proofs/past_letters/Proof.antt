@@ -21,13 +21,13 @@ use Rattle.lexer.proofs.reader.token_from.Reads as token-from-reads
 use Rattle.lexer.proofs.is_alphabetic.Reads as is-alphabetic-reads
 
 abbrev Inv-loop : tie.InvT-loop
-Inv-loop s from at₀ at = (at ≤ length s) × ((l : Lexeme) → PastLetters s at l → PastLetters s at₀ l)
+Inv-loop s from table at₀ at = (at ≤ length s) × ((l : Lexeme) → PastLetters s at l → PastLetters s at₀ l)
 
 abbrev μ-loop : tie.MeasureT-loop
-μ-loop s from at₀ at = length s - at
+μ-loop s from table at₀ at = length s - at
 
 loop-holds : tie.Need-loop-holds Inv-loop μ-loop
-loop-holds c = ((c .before .pre), λ l f. f)
+loop-holds c = (c .before .pre .0, λ l f. f)
 
 shared-slice-read-is-alphabetic : tie.Need-shared-slice-read-is-alphabetic Inv-loop μ-loop
 shared-slice-read-is-alphabetic c = search needs
@@ -50,7 +50,7 @@ loop-again c =
     (omega arith, λ x f. l .inv .1 x (past-on s (l .at) (l .inv .0) (lexeme (Token.Letter b Variant.Italic) (l .at) (l .at + 1)) (sym is) b Variant.Italic refl f))
 
 token-from-requires : tie.Need-token-from-requires Inv-loop μ-loop
-token-from-requires c κs = (c .before .loop) .inv .0
+token-from-requires c κs = ((c .before .loop) .inv .0, c .before .before .before .pre .1)
 
 enum-told : tie.Need-enum-told Inv-loop μ-loop
 enum-told c = search needs

@@ -53,83 +53,83 @@ use Rattle.text.proofs.put.put.Reads as put-reads
 use Rattle.print.proofs.+print_matrix+print_node+print_nodes+print_one+print_row+print_three+print_two.{statement}
 use Rattle.print.proofs.+print_matrix+print_node+print_nodes+print_one+print_row+print_three+print_two.Tie.{close}
 
-abbrev μ-print-matrix : Measures 3 print-matrix-kinds.ps ℕ
+abbrev μ-print-matrix : Measures 4 print-matrix-kinds.ps ℕ
 μ-print-matrix κs a = 3 * a .1 .1 .1 .1 .1 .0 + 2
 
-abbrev μ-print-node : Measures 3 print-node-kinds.ps ℕ
+abbrev μ-print-node : Measures 4 print-node-kinds.ps ℕ
 μ-print-node κs a = 3 * a .1 .1 .1 .1 .0
 
-abbrev μ-print-nodes : Measures 3 print-nodes-kinds.ps ℕ
+abbrev μ-print-nodes : Measures 4 print-nodes-kinds.ps ℕ
 μ-print-nodes κs a = 3 * a .1 .1 .1 .1 .1 .0 + 1
 
-abbrev μ-print-one : Measures 3 print-one-kinds.ps ℕ
+abbrev μ-print-one : Measures 4 print-one-kinds.ps ℕ
 μ-print-one κs a = 3 * a .1 .1 .1 .1 .0 + 1
 
-abbrev μ-print-row : Measures 3 print-row-kinds.ps ℕ
+abbrev μ-print-row : Measures 4 print-row-kinds.ps ℕ
 μ-print-row κs a = 3 * a .1 .1 .1 .1 .0 + 2
 
-abbrev μ-print-three : Measures 3 print-three-kinds.ps ℕ
+abbrev μ-print-three : Measures 4 print-three-kinds.ps ℕ
 μ-print-three κs a = 3 * a .1 .1 .1 .1 .1 .1 .0 + 1
 
-abbrev μ-print-two : Measures 3 print-two-kinds.ps ℕ
+abbrev μ-print-two : Measures 4 print-two-kinds.ps ℕ
 μ-print-two κs a = 3 * a .1 .1 .1 .1 .1 .0 + 1
 
-abbrev print-matrix-at : ℕ → In 3 print-matrix-kinds.ps
+abbrev print-matrix-at : ℕ → In 4 print-matrix-kinds.ps
 print-matrix-at t =
-    and 3 print-matrix-kinds.ps (is 3 print-matrix-kinds.ps μ-print-matrix t) print-matrix.Pre
+    and 4 print-matrix-kinds.ps (is 4 print-matrix-kinds.ps μ-print-matrix t) print-matrix.Pre
 
-abbrev print-matrix-below : ℕ → In 3 print-matrix-kinds.ps
+abbrev print-matrix-below : ℕ → In 4 print-matrix-kinds.ps
 print-matrix-below t =
     and
-    3
+    4
     print-matrix-kinds.ps
-    (falls 3 print-matrix-kinds.ps _<_ μ-print-matrix t)
+    (falls 4 print-matrix-kinds.ps _<_ μ-print-matrix t)
     print-matrix.Pre
 
-abbrev print-node-at : ℕ → In 3 print-node-kinds.ps
+abbrev print-node-at : ℕ → In 4 print-node-kinds.ps
 print-node-at t =
-    and 3 print-node-kinds.ps (is 3 print-node-kinds.ps μ-print-node t) print-node.Pre
+    and 4 print-node-kinds.ps (is 4 print-node-kinds.ps μ-print-node t) print-node.Pre
 
-abbrev print-node-below : ℕ → In 3 print-node-kinds.ps
+abbrev print-node-below : ℕ → In 4 print-node-kinds.ps
 print-node-below t =
-    and 3 print-node-kinds.ps (falls 3 print-node-kinds.ps _<_ μ-print-node t) print-node.Pre
+    and 4 print-node-kinds.ps (falls 4 print-node-kinds.ps _<_ μ-print-node t) print-node.Pre
 
-abbrev print-nodes-at : ℕ → In 3 print-nodes-kinds.ps
+abbrev print-nodes-at : ℕ → In 4 print-nodes-kinds.ps
 print-nodes-at t =
-    and 3 print-nodes-kinds.ps (is 3 print-nodes-kinds.ps μ-print-nodes t) print-nodes.Pre
+    and 4 print-nodes-kinds.ps (is 4 print-nodes-kinds.ps μ-print-nodes t) print-nodes.Pre
 
-abbrev print-nodes-below : ℕ → In 3 print-nodes-kinds.ps
+abbrev print-nodes-below : ℕ → In 4 print-nodes-kinds.ps
 print-nodes-below t =
-    and 3 print-nodes-kinds.ps (falls 3 print-nodes-kinds.ps _<_ μ-print-nodes t) print-nodes.Pre
+    and 4 print-nodes-kinds.ps (falls 4 print-nodes-kinds.ps _<_ μ-print-nodes t) print-nodes.Pre
 
-abbrev print-one-at : ℕ → In 3 print-one-kinds.ps
-print-one-at t = and 3 print-one-kinds.ps (is 3 print-one-kinds.ps μ-print-one t) print-one.Pre
+abbrev print-one-at : ℕ → In 4 print-one-kinds.ps
+print-one-at t = and 4 print-one-kinds.ps (is 4 print-one-kinds.ps μ-print-one t) print-one.Pre
 
-abbrev print-one-below : ℕ → In 3 print-one-kinds.ps
+abbrev print-one-below : ℕ → In 4 print-one-kinds.ps
 print-one-below t =
-    and 3 print-one-kinds.ps (falls 3 print-one-kinds.ps _<_ μ-print-one t) print-one.Pre
+    and 4 print-one-kinds.ps (falls 4 print-one-kinds.ps _<_ μ-print-one t) print-one.Pre
 
-abbrev print-row-at : ℕ → In 3 print-row-kinds.ps
-print-row-at t = and 3 print-row-kinds.ps (is 3 print-row-kinds.ps μ-print-row t) print-row.Pre
+abbrev print-row-at : ℕ → In 4 print-row-kinds.ps
+print-row-at t = and 4 print-row-kinds.ps (is 4 print-row-kinds.ps μ-print-row t) print-row.Pre
 
-abbrev print-row-below : ℕ → In 3 print-row-kinds.ps
+abbrev print-row-below : ℕ → In 4 print-row-kinds.ps
 print-row-below t =
-    and 3 print-row-kinds.ps (falls 3 print-row-kinds.ps _<_ μ-print-row t) print-row.Pre
+    and 4 print-row-kinds.ps (falls 4 print-row-kinds.ps _<_ μ-print-row t) print-row.Pre
 
-abbrev print-three-at : ℕ → In 3 print-three-kinds.ps
+abbrev print-three-at : ℕ → In 4 print-three-kinds.ps
 print-three-at t =
-    and 3 print-three-kinds.ps (is 3 print-three-kinds.ps μ-print-three t) print-three.Pre
+    and 4 print-three-kinds.ps (is 4 print-three-kinds.ps μ-print-three t) print-three.Pre
 
-abbrev print-three-below : ℕ → In 3 print-three-kinds.ps
+abbrev print-three-below : ℕ → In 4 print-three-kinds.ps
 print-three-below t =
-    and 3 print-three-kinds.ps (falls 3 print-three-kinds.ps _<_ μ-print-three t) print-three.Pre
+    and 4 print-three-kinds.ps (falls 4 print-three-kinds.ps _<_ μ-print-three t) print-three.Pre
 
-abbrev print-two-at : ℕ → In 3 print-two-kinds.ps
-print-two-at t = and 3 print-two-kinds.ps (is 3 print-two-kinds.ps μ-print-two t) print-two.Pre
+abbrev print-two-at : ℕ → In 4 print-two-kinds.ps
+print-two-at t = and 4 print-two-kinds.ps (is 4 print-two-kinds.ps μ-print-two t) print-two.Pre
 
-abbrev print-two-below : ℕ → In 3 print-two-kinds.ps
+abbrev print-two-below : ℕ → In 4 print-two-kinds.ps
 print-two-below t =
-    and 3 print-two-kinds.ps (falls 3 print-two-kinds.ps _<_ μ-print-two t) print-two.Pre
+    and 4 print-two-kinds.ps (falls 4 print-two-kinds.ps _<_ μ-print-two t) print-two.Pre
 
 -- the contracts that print-matrix is proved from
 abbrev print-matrix-calls : ℕ → print-matrix-lts.Claims
@@ -161,12 +161,12 @@ print-two-calls t = (put-front-two-reads.Asked, put-front-two-reads.Learnt, prin
 
 print-matrix-put-front-matrix-requires : (t : ℕ) → print-matrix-lts.Need-put-front-matrix-requires (print-matrix-calls t) (print-matrix-at t) print-matrix.Post
 print-matrix-put-front-matrix-requires t c κs =
-    between-front (matrix-shown ((c .before .before .before .before .args) .s .now) ((c .before .before .before .before .args) .align)) ((c .before .before .before .before .pre) .1)
+    between-front (matrix-shown ((c .before .before .before .before .args) .s .now) ((c .before .before .before .before .args) .align)) ((c .before .before .before .before .pre) .1 .0)
 
 print-matrix-print-nodes-requires : (t : ℕ) → print-matrix-lts.Need-print-nodes-requires (print-matrix-calls t) (print-matrix-at t) print-matrix.Post
 print-matrix-print-nodes-requires t c κs =
-    let m = (c .before .before .before .before .before .before .before .before .pre) .0 in
-    (omega arith, between-inner (matrix-shown ((c .before .before .before .before .before .before .before .before .args) .s .now) ((c .before .before .before .before .before .before .before .before .args) .align)) ((c .before .before .before .before .before .before .before .before .pre) .1) ((c .before .before .before .put-front-matrix) .ensures))
+    let pre = c .before .before .before .before .before .before .before .before .pre in
+    (omega arith, (between-inner (matrix-shown ((c .before .before .before .before .before .before .before .before .args) .s .now) ((c .before .before .before .before .before .before .before .before .args) .align)) (pre .1 .0) ((c .before .before .before .put-front-matrix) .ensures), pre .1 .1))
 
 print-matrix-slice-aggregate-put : (t : ℕ) → print-matrix-lts.Need-slice-aggregate-put (print-matrix-calls t) (print-matrix-at t) print-matrix.Post
 print-matrix-slice-aggregate-put t c = search needs
@@ -174,7 +174,7 @@ print-matrix-slice-aggregate-put t c = search needs
 print-matrix-put-requires : (t : ℕ) → print-matrix-lts.Need-put-requires (print-matrix-calls t) (print-matrix-at t) print-matrix.Post
 unfolding text-opens
 print-matrix-put-requires t c κs =
-    between-back (matrix-shown ((c .before .before .before .before .before .before .before .before .before .before .before .before .before .args) .s .now) ((c .before .before .before .before .before .before .before .before .before .before .before .before .before .args) .align)) ((c .before .before .before .before .before .before .before .before .before .before .before .before .before .pre) .1) ((c .before .before .before .before .before .before .before .before .put-front-matrix) .ensures) ((c .before .before .before .before .print-nodes) .ensures)
+    between-back (matrix-shown ((c .before .before .before .before .before .before .before .before .before .before .before .before .before .args) .s .now) ((c .before .before .before .before .before .before .before .before .before .before .before .before .before .args) .align)) ((c .before .before .before .before .before .before .before .before .before .before .before .before .before .pre) .1 .0) ((c .before .before .before .before .before .before .before .before .put-front-matrix) .ensures) ((c .before .before .before .before .print-nodes) .ensures)
 
 print-matrix-same-length : (t : ℕ) → print-matrix-lts.Need-same-length (print-matrix-calls t) (print-matrix-at t) print-matrix.Post
 print-matrix-same-length t c = search needs
@@ -185,7 +185,7 @@ print-matrix-returns t c =
     between-prints (matrix-shown ((c .before .before .before .before .before .before .before .before .before .before .before .before .before .before .before .before .args) .s .now) ((c .before .before .before .before .before .before .before .before .before .before .before .before .before .before .before .before .args) .align)) ((c .before .before .before .before .before .before .before .before .before .before .before .put-front-matrix) .ensures) ((c .before .before .before .before .before .before .before .print-nodes) .ensures) ((c .before .before .put) .ensures)
 
 print-node-get-record-requires : (t : ℕ) → print-node-lts.Need-get-record-requires (print-node-calls t) (print-node-at t) print-node.Post
-print-node-get-record-requires t c κs = (c .before .before .before .pre) .1 .there .fits
+print-node-get-record-requires t c κs = (c .before .before .before .pre) .1 .0 .there .fits
 
 print-node-shape-of-requires : (t : ℕ) → print-node-lts.Need-shape-of-requires (print-node-calls t) (print-node-at t) print-node.Post
 print-node-shape-of-requires t c κs = search needs
@@ -196,73 +196,73 @@ print-node-enum-known-l t c = search needs
 print-node-put-leaf-requires : (t : ℕ) → print-node-lts.Need-put-leaf-requires (print-node-calls t) (print-node-at t) print-node.Post
 unfolding shown print
 print-node-put-leaf-requires t c κs =
-    let p = able-like (of-kind ((c .before .before .before .before .before .before .before .before .before .args) .place) (Shape.Leaf _) ((c .before .before .before .before .before .get-record) .ensures .0) ((c .before .before .before .before .shape-of) .ensures) ((c .before .before .l) .given .1)) ((c .before .before .before .before .before .before .before .before .before .pre) .1) in
-    (p .there, p .room)
+    let p = able-like (of-kind ((c .before .before .before .before .before .before .before .before .before .args) .place) (Shape.Leaf _) ((c .before .before .before .before .before .get-record) .ensures .0) ((c .before .before .before .before .shape-of) .ensures) ((c .before .before .l) .given .1)) ((c .before .before .before .before .before .before .before .before .before .pre) .1 .0) in
+    (p .there, p .room, (c .before .before .before .before .before .before .before .before .before .pre) .1 .1)
 
 print-node-enum-known-k : (t : ℕ) → print-node-lts.Need-enum-known-k (print-node-calls t) (print-node-at t) print-node.Post
 print-node-enum-known-k t c = search needs
 
 print-node-sub-print-one : (t : ℕ) → print-node-lts.Need-sub-print-one (print-node-calls t) (print-node-at t) print-node.Post
 print-node-sub-print-one t c =
-    let near = (c .before .before .before .before .before .before .before .before .pre) .1 .there .near in
+    let near = (c .before .before .before .before .before .before .before .before .pre) .1 .0 .there .near in
     omega arith
 
 print-node-print-one-requires : (t : ℕ) → print-node-lts.Need-print-one-requires (print-node-calls t) (print-node-at t) print-node.Post
 print-node-print-one-requires t c κs =
-    let m = (c .before .before .before .before .before .before .before .before .before .pre) .0 in
-    (omega arith, able-like (of-kind ((c .before .before .before .before .before .before .before .before .before .args) .place) (Shape.One _) ((c .before .before .before .before .before .get-record) .ensures .0) ((c .before .before .before .before .shape-of) .ensures) ((c .before .before .k) .given .1)) ((c .before .before .before .before .before .before .before .before .before .pre) .1))
+    let pre = c .before .before .before .before .before .before .before .before .before .pre in
+    (omega arith, (able-like (of-kind ((c .before .before .before .before .before .before .before .before .before .args) .place) (Shape.One _) ((c .before .before .before .before .before .get-record) .ensures .0) ((c .before .before .before .before .shape-of) .ensures) ((c .before .before .k) .given .1)) (pre .1 .0), pre .1 .1))
 
 print-node-enum-known-k-2 : (t : ℕ) → print-node-lts.Need-enum-known-k-2 (print-node-calls t) (print-node-at t) print-node.Post
 print-node-enum-known-k-2 t c = search needs
 
 print-node-sub-print-two : (t : ℕ) → print-node-lts.Need-sub-print-two (print-node-calls t) (print-node-at t) print-node.Post
 print-node-sub-print-two t c =
-    let near = (c .before .before .before .before .before .before .before .before .pre) .1 .there .near in
+    let near = (c .before .before .before .before .before .before .before .before .pre) .1 .0 .there .near in
     omega arith
 
 print-node-print-two-requires : (t : ℕ) → print-node-lts.Need-print-two-requires (print-node-calls t) (print-node-at t) print-node.Post
 print-node-print-two-requires t c κs =
-    let m = (c .before .before .before .before .before .before .before .before .before .pre) .0 in
-    (omega arith, able-like (of-kind ((c .before .before .before .before .before .before .before .before .before .args) .place) (Shape.Two _) ((c .before .before .before .before .before .get-record) .ensures .0) ((c .before .before .before .before .shape-of) .ensures) ((c .before .before .k2) .given .1)) ((c .before .before .before .before .before .before .before .before .before .pre) .1))
+    let pre = c .before .before .before .before .before .before .before .before .before .pre in
+    (omega arith, (able-like (of-kind ((c .before .before .before .before .before .before .before .before .before .args) .place) (Shape.Two _) ((c .before .before .before .before .before .get-record) .ensures .0) ((c .before .before .before .before .shape-of) .ensures) ((c .before .before .k2) .given .1)) (pre .1 .0), pre .1 .1))
 
 print-node-enum-known-k-3 : (t : ℕ) → print-node-lts.Need-enum-known-k-3 (print-node-calls t) (print-node-at t) print-node.Post
 print-node-enum-known-k-3 t c = search needs
 
 print-node-sub-print-three : (t : ℕ) → print-node-lts.Need-sub-print-three (print-node-calls t) (print-node-at t) print-node.Post
 print-node-sub-print-three t c =
-    let near = (c .before .before .before .before .before .before .before .before .pre) .1 .there .near in
+    let near = (c .before .before .before .before .before .before .before .before .pre) .1 .0 .there .near in
     omega arith
 
 print-node-print-three-requires : (t : ℕ) → print-node-lts.Need-print-three-requires (print-node-calls t) (print-node-at t) print-node.Post
 print-node-print-three-requires t c κs =
-    let m = (c .before .before .before .before .before .before .before .before .before .pre) .0 in
-    (omega arith, able-like (of-kind ((c .before .before .before .before .before .before .before .before .before .args) .place) (Shape.Three _) ((c .before .before .before .before .before .get-record) .ensures .0) ((c .before .before .before .before .shape-of) .ensures) ((c .before .before .k3) .given .1)) ((c .before .before .before .before .before .before .before .before .before .pre) .1))
+    let pre = c .before .before .before .before .before .before .before .before .before .pre in
+    (omega arith, (able-like (of-kind ((c .before .before .before .before .before .before .before .before .before .args) .place) (Shape.Three _) ((c .before .before .before .before .before .get-record) .ensures .0) ((c .before .before .before .before .shape-of) .ensures) ((c .before .before .k3) .given .1)) (pre .1 .0), pre .1 .1))
 
 print-node-enum-known-n : (t : ℕ) → print-node-lts.Need-enum-known-n (print-node-calls t) (print-node-at t) print-node.Post
 print-node-enum-known-n t c = search needs
 
 print-node-sub-print-row : (t : ℕ) → print-node-lts.Need-sub-print-row (print-node-calls t) (print-node-at t) print-node.Post
 print-node-sub-print-row t c =
-    let near = (c .before .before .before .before .before .before .before .before .pre) .1 .there .near in
+    let near = (c .before .before .before .before .before .before .before .before .pre) .1 .0 .there .near in
     omega arith
 
 print-node-print-row-requires : (t : ℕ) → print-node-lts.Need-print-row-requires (print-node-calls t) (print-node-at t) print-node.Post
 print-node-print-row-requires t c κs =
-    let m = (c .before .before .before .before .before .before .before .before .before .pre) .0 in
-    (omega arith, able-like (of-kind ((c .before .before .before .before .before .before .before .before .before .args) .place) (Shape.Row _) ((c .before .before .before .before .before .get-record) .ensures .0) ((c .before .before .before .before .shape-of) .ensures) ((c .before .before .n) .given .1)) ((c .before .before .before .before .before .before .before .before .before .pre) .1))
+    let pre = c .before .before .before .before .before .before .before .before .before .pre in
+    (omega arith, (able-like (of-kind ((c .before .before .before .before .before .before .before .before .before .args) .place) (Shape.Row _) ((c .before .before .before .before .before .get-record) .ensures .0) ((c .before .before .before .before .shape-of) .ensures) ((c .before .before .n) .given .1)) (pre .1 .0), pre .1 .1))
 
 print-node-enum-known-align : (t : ℕ) → print-node-lts.Need-enum-known-align (print-node-calls t) (print-node-at t) print-node.Post
 print-node-enum-known-align t c = search needs
 
 print-node-sub-print-matrix : (t : ℕ) → print-node-lts.Need-sub-print-matrix (print-node-calls t) (print-node-at t) print-node.Post
 print-node-sub-print-matrix t c =
-    let near = (c .before .before .before .before .before .before .before .before .pre) .1 .there .near in
+    let near = (c .before .before .before .before .before .before .before .before .pre) .1 .0 .there .near in
     omega arith
 
 print-node-print-matrix-requires : (t : ℕ) → print-node-lts.Need-print-matrix-requires (print-node-calls t) (print-node-at t) print-node.Post
 print-node-print-matrix-requires t c κs =
-    let m = (c .before .before .before .before .before .before .before .before .before .pre) .0 in
-    (omega arith, able-like (of-kind ((c .before .before .before .before .before .before .before .before .before .args) .place) (Shape.Matrix _ _) ((c .before .before .before .before .before .get-record) .ensures .0) ((c .before .before .before .before .shape-of) .ensures) ((c .before .before .align) .given .1)) ((c .before .before .before .before .before .before .before .before .before .pre) .1))
+    let pre = c .before .before .before .before .before .before .before .before .before .pre in
+    (omega arith, (able-like (of-kind ((c .before .before .before .before .before .before .before .before .before .args) .place) (Shape.Matrix _ _) ((c .before .before .before .before .before .get-record) .ensures .0) ((c .before .before .before .before .shape-of) .ensures) ((c .before .before .align) .given .1)) (pre .1 .0), pre .1 .1))
 
 print-node-same-length : (t : ℕ) → print-node-lts.Need-same-length (print-node-calls t) (print-node-at t) print-node.Post
 print-node-same-length t c = search needs
@@ -308,20 +308,20 @@ print-node-returns-6 t c =
     prints-like (of-kind ((c .before .before .before .before .before .before .before .before .before .before .before .before .args) .place) (Shape.Matrix _ _) ((c .before .before .before .before .before .before .before .before .get-record) .ensures .0) ((c .before .before .before .before .before .before .before .shape-of) .ensures) ((c .before .before .before .before .before .align) .given .1)) ((c .before .before .print-matrix) .ensures)
 
 abbrev print-nodes-Inv-loop : print-nodes-lts.InvT-loop
-print-nodes-Inv-loop place s store a n left out₀ at write i₀ todo₀ end₀ out i todo end =
+print-nodes-Inv-loop place s store a n left out₀ at write table i₀ todo₀ end₀ out i todo end =
     (length out ≡ length out₀) × Going s store left place write a n out₀ at i todo out end
 
 abbrev print-nodes-μ-loop : print-nodes-lts.MeasureT-loop
-print-nodes-μ-loop place s store a n left out₀ at write i₀ todo₀ end₀ out i todo end = todo
+print-nodes-μ-loop place s store a n left out₀ at write table i₀ todo₀ end₀ out i todo end = todo
 
 print-nodes-loop-holds : (t : ℕ) → print-nodes-lts.Need-loop-holds (print-nodes-calls t) (print-nodes-at t) print-nodes.Post print-nodes-Inv-loop print-nodes-μ-loop
-print-nodes-loop-holds t c = (refl, going-start ((c .before .before .before .pre) .1))
+print-nodes-loop-holds t c = (refl, going-start ((c .before .before .before .pre) .1 .0))
 
 print-nodes-print-node-requires : (t : ℕ) → print-nodes-lts.Need-print-node-requires (print-nodes-calls t) (print-nodes-at t) print-nodes.Post print-nodes-Inv-loop print-nodes-μ-loop
 print-nodes-print-node-requires t c κs =
-    let m = (c .before .before .before .before .before .before .pre) .0 in
+    let pre = c .before .before .before .before .before .before .pre in
     let some = (c .before .loop-test) .taken in
-    (omega arith, going-node ((c .before .before .loop) .inv .1) (omega arith))
+    (omega arith, (going-node ((c .before .before .loop) .inv .1) (omega arith), pre .1 .1))
 
 print-nodes-get-next-requires : (t : ℕ) → print-nodes-lts.Need-get-next-requires (print-nodes-calls t) (print-nodes-at t) print-nodes.Post print-nodes-Inv-loop print-nodes-μ-loop
 print-nodes-get-next-requires t c κs =
@@ -349,19 +349,19 @@ print-nodes-returns t c = going-done ((c .before .loop) .inv .1) (omega arith)
 
 print-one-put-front-one-requires : (t : ℕ) → print-one-lts.Need-put-front-one-requires (print-one-calls t) (print-one-at t) print-one.Post
 print-one-put-front-one-requires t c κs =
-    between-front (one-shown ((c .before .before .before .before .args) .s .now) ((c .before .before .before .before .args) .k)) ((c .before .before .before .before .pre) .1)
+    between-front (one-shown ((c .before .before .before .before .args) .s .now) ((c .before .before .before .before .args) .k)) ((c .before .before .before .before .pre) .1 .0)
 
 print-one-place-of-requires : (t : ℕ) → print-one-lts.Need-place-of-requires (print-one-calls t) (print-one-at t) print-one.Post
 print-one-place-of-requires t c κs = search needs
 
 print-one-print-node-requires : (t : ℕ) → print-one-lts.Need-print-node-requires (print-one-calls t) (print-one-at t) print-one.Post
 print-one-print-node-requires t c κs =
-    let m = (c .before .before .before .before .before .before .before .before .before .pre) .0 in
-    (omega arith, rw ((c .before .place-of) .ensures) (between-inner (one-shown ((c .before .before .before .before .before .before .before .before .before .args) .s .now) ((c .before .before .before .before .before .before .before .before .before .args) .k)) ((c .before .before .before .before .before .before .before .before .before .pre) .1) ((c .before .before .before .before .put-front-one) .ensures)))
+    let pre = c .before .before .before .before .before .before .before .before .before .pre in
+    (omega arith, (rw ((c .before .place-of) .ensures) (between-inner (one-shown ((c .before .before .before .before .before .before .before .before .before .args) .s .now) ((c .before .before .before .before .before .before .before .before .before .args) .k)) (pre .1 .0) ((c .before .before .before .before .put-front-one) .ensures)), pre .1 .1))
 
 print-one-put-back-one-requires : (t : ℕ) → print-one-lts.Need-put-back-one-requires (print-one-calls t) (print-one-at t) print-one.Post
 print-one-put-back-one-requires t c κs =
-    between-back (one-shown ((c .before .before .before .before .before .before .before .before .before .before .before .before .before .args) .s .now) ((c .before .before .before .before .before .before .before .before .before .before .before .before .before .args) .k)) ((c .before .before .before .before .before .before .before .before .before .before .before .before .before .pre) .1) ((c .before .before .before .before .before .before .before .before .put-front-one) .ensures) (rw ((c .before .before .before .before .before .place-of) .ensures) at ((c .before .before .before .print-node) .ensures))
+    between-back (one-shown ((c .before .before .before .before .before .before .before .before .before .before .before .before .before .args) .s .now) ((c .before .before .before .before .before .before .before .before .before .before .before .before .before .args) .k)) ((c .before .before .before .before .before .before .before .before .before .before .before .before .before .pre) .1 .0) ((c .before .before .before .before .before .before .before .before .put-front-one) .ensures) (rw ((c .before .before .before .before .before .place-of) .ensures) at ((c .before .before .before .print-node) .ensures))
 
 print-one-same-length : (t : ℕ) → print-one-lts.Need-same-length (print-one-calls t) (print-one-at t) print-one.Post
 print-one-same-length t c = search needs
@@ -376,13 +376,13 @@ print-row-slice-aggregate-put t c = search needs
 print-row-put-requires : (t : ℕ) → print-row-lts.Need-put-requires (print-row-calls t) (print-row-at t) print-row.Post
 unfolding text-opens
 print-row-put-requires t c κs =
-    between-front (row-shown ((c .before .before .before .before .before .args) .s .now)) ((c .before .before .before .before .before .pre) .1)
+    between-front (row-shown ((c .before .before .before .before .before .args) .s .now)) ((c .before .before .before .before .before .pre) .1 .0)
 
 print-row-print-nodes-requires : (t : ℕ) → print-row-lts.Need-print-nodes-requires (print-row-calls t) (print-row-at t) print-row.Post
 unfolding text-opens
 print-row-print-nodes-requires t c κs =
-    let m = (c .before .before .before .before .before .before .before .before .before .pre) .0 in
-    (omega arith, between-inner (row-shown ((c .before .before .before .before .before .before .before .before .before .args) .s .now)) ((c .before .before .before .before .before .before .before .before .before .pre) .1) ((c .before .before .before .put) .ensures))
+    let pre = c .before .before .before .before .before .before .before .before .before .pre in
+    (omega arith, (between-inner (row-shown ((c .before .before .before .before .before .before .before .before .before .args) .s .now)) (pre .1 .0) ((c .before .before .before .put) .ensures), pre .1 .1))
 
 print-row-slice-aggregate-put-2 : (t : ℕ) → print-row-lts.Need-slice-aggregate-put-2 (print-row-calls t) (print-row-at t) print-row.Post
 print-row-slice-aggregate-put-2 t c = search needs
@@ -390,7 +390,7 @@ print-row-slice-aggregate-put-2 t c = search needs
 print-row-put-requires-2 : (t : ℕ) → print-row-lts.Need-put-requires-2 (print-row-calls t) (print-row-at t) print-row.Post
 unfolding text-opens
 print-row-put-requires-2 t c κs =
-    between-back (row-shown ((c .before .before .before .before .before .before .before .before .before .before .before .before .before .before .args) .s .now)) ((c .before .before .before .before .before .before .before .before .before .before .before .before .before .before .pre) .1) ((c .before .before .before .before .before .before .before .before .put) .ensures) ((c .before .before .before .before .print-nodes) .ensures)
+    between-back (row-shown ((c .before .before .before .before .before .before .before .before .before .before .before .before .before .before .args) .s .now)) ((c .before .before .before .before .before .before .before .before .before .before .before .before .before .before .pre) .1 .0) ((c .before .before .before .before .before .before .before .before .put) .ensures) ((c .before .before .before .before .print-nodes) .ensures)
 
 print-row-same-length : (t : ℕ) → print-row-lts.Need-same-length (print-row-calls t) (print-row-at t) print-row.Post
 print-row-same-length t c = search needs
@@ -402,28 +402,28 @@ print-row-returns t c =
 
 print-three-put-front-three-requires : (t : ℕ) → print-three-lts.Need-put-front-three-requires (print-three-calls t) (print-three-at t) print-three.Post
 print-three-put-front-three-requires t c κs =
-    between-front (three-shown ((c .before .before .before .before .args) .s .now) ((c .before .before .before .before .args) .k)) ((c .before .before .before .before .pre) .1)
+    between-front (three-shown ((c .before .before .before .before .args) .s .now) ((c .before .before .before .before .args) .k)) ((c .before .before .before .before .pre) .1 .0)
 
 print-three-print-node-requires : (t : ℕ) → print-three-lts.Need-print-node-requires (print-three-calls t) (print-three-at t) print-three.Post
 print-three-print-node-requires t c κs =
-    let m = (c .before .before .before .before .before .before .before .before .pre) .0 in
-    (omega arith, three-first (between-inner (three-shown ((c .before .before .before .before .before .before .before .before .args) .s .now) ((c .before .before .before .before .before .before .before .before .args) .k)) ((c .before .before .before .before .before .before .before .before .pre) .1) ((c .before .before .before .put-front-three) .ensures)))
+    let pre = c .before .before .before .before .before .before .before .before .pre in
+    (omega arith, (three-first (between-inner (three-shown ((c .before .before .before .before .before .before .before .before .args) .s .now) ((c .before .before .before .before .before .before .before .before .args) .k)) (pre .1 .0) ((c .before .before .before .put-front-three) .ensures)), pre .1 .1))
 
 print-three-print-node-requires-2 : (t : ℕ) → print-three-lts.Need-print-node-requires-2 (print-three-calls t) (print-three-at t) print-three.Post
 print-three-print-node-requires-2 t c κs =
-    let m = (c .before .before .before .before .before .before .before .before .before .before .before .before .pre) .0 in
-    let others = three-others (between-inner (three-shown ((c .before .before .before .before .before .before .before .before .before .before .before .before .args) .s .now) ((c .before .before .before .before .before .before .before .before .before .before .before .before .args) .k)) ((c .before .before .before .before .before .before .before .before .before .before .before .before .pre) .1) ((c .before .before .before .before .before .before .before .put-front-three) .ensures)) ((c .before .before .before .print-node) .ensures) in
-    (omega arith, two-first others)
+    let pre = c .before .before .before .before .before .before .before .before .before .before .before .before .pre in
+    let others = three-others (between-inner (three-shown ((c .before .before .before .before .before .before .before .before .before .before .before .before .args) .s .now) ((c .before .before .before .before .before .before .before .before .before .before .before .before .args) .k)) (pre .1 .0) ((c .before .before .before .before .before .before .before .put-front-three) .ensures)) ((c .before .before .before .print-node) .ensures) in
+    (omega arith, (two-first others, pre .1 .1))
 
 print-three-print-node-requires-3 : (t : ℕ) → print-three-lts.Need-print-node-requires-3 (print-three-calls t) (print-three-at t) print-three.Post
 print-three-print-node-requires-3 t c κs =
-    let m = (c .before .before .before .before .before .before .before .before .before .before .before .before .before .before .before .before .pre) .0 in
-    let others = three-others (between-inner (three-shown ((c .before .before .before .before .before .before .before .before .before .before .before .before .before .before .before .before .args) .s .now) ((c .before .before .before .before .before .before .before .before .before .before .before .before .before .before .before .before .args) .k)) ((c .before .before .before .before .before .before .before .before .before .before .before .before .before .before .before .before .pre) .1) ((c .before .before .before .before .before .before .before .before .before .before .before .put-front-three) .ensures)) ((c .before .before .before .before .before .before .before .print-node) .ensures) in
-    (omega arith, two-second others ((c .before .before .before .print-node2) .ensures))
+    let pre = c .before .before .before .before .before .before .before .before .before .before .before .before .before .before .before .before .pre in
+    let others = three-others (between-inner (three-shown ((c .before .before .before .before .before .before .before .before .before .before .before .before .before .before .before .before .args) .s .now) ((c .before .before .before .before .before .before .before .before .before .before .before .before .before .before .before .before .args) .k)) (pre .1 .0) ((c .before .before .before .before .before .before .before .before .before .before .before .put-front-three) .ensures)) ((c .before .before .before .before .before .before .before .print-node) .ensures) in
+    (omega arith, (two-second others ((c .before .before .before .print-node2) .ensures), pre .1 .1))
 
 print-three-put-back-three-requires : (t : ℕ) → print-three-lts.Need-put-back-three-requires (print-three-calls t) (print-three-at t) print-three.Post
 print-three-put-back-three-requires t c κs =
-    between-back (three-shown ((c .before .before .before .before .before .before .before .before .before .before .before .before .before .before .before .before .before .before .before .before .args) .s .now) ((c .before .before .before .before .before .before .before .before .before .before .before .before .before .before .before .before .before .before .before .before .args) .k)) ((c .before .before .before .before .before .before .before .before .before .before .before .before .before .before .before .before .before .before .before .before .pre) .1) ((c .before .before .before .before .before .before .before .before .before .before .before .before .before .before .before .put-front-three) .ensures) (three-done ((c .before .before .before .before .before .before .before .before .before .before .before .print-node) .ensures) ((c .before .before .before .before .before .before .before .print-node2) .ensures) ((c .before .before .before .print-node3) .ensures))
+    between-back (three-shown ((c .before .before .before .before .before .before .before .before .before .before .before .before .before .before .before .before .before .before .before .before .args) .s .now) ((c .before .before .before .before .before .before .before .before .before .before .before .before .before .before .before .before .before .before .before .before .args) .k)) ((c .before .before .before .before .before .before .before .before .before .before .before .before .before .before .before .before .before .before .before .before .pre) .1 .0) ((c .before .before .before .before .before .before .before .before .before .before .before .before .before .before .before .put-front-three) .ensures) (three-done ((c .before .before .before .before .before .before .before .before .before .before .before .print-node) .ensures) ((c .before .before .before .before .before .before .before .print-node2) .ensures) ((c .before .before .before .print-node3) .ensures))
 
 print-three-same-length : (t : ℕ) → print-three-lts.Need-same-length (print-three-calls t) (print-three-at t) print-three.Post
 print-three-same-length t c = search needs
@@ -434,21 +434,21 @@ print-three-returns t c =
 
 print-two-put-front-two-requires : (t : ℕ) → print-two-lts.Need-put-front-two-requires (print-two-calls t) (print-two-at t) print-two.Post
 print-two-put-front-two-requires t c κs =
-    between-front (two-shown ((c .before .before .before .before .args) .s .now) ((c .before .before .before .before .args) .k)) ((c .before .before .before .before .pre) .1)
+    between-front (two-shown ((c .before .before .before .before .args) .s .now) ((c .before .before .before .before .args) .k)) ((c .before .before .before .before .pre) .1 .0)
 
 print-two-print-node-requires : (t : ℕ) → print-two-lts.Need-print-node-requires (print-two-calls t) (print-two-at t) print-two.Post
 print-two-print-node-requires t c κs =
-    let m = (c .before .before .before .before .before .before .before .before .pre) .0 in
-    (omega arith, two-first (between-inner (two-shown ((c .before .before .before .before .before .before .before .before .args) .s .now) ((c .before .before .before .before .before .before .before .before .args) .k)) ((c .before .before .before .before .before .before .before .before .pre) .1) ((c .before .before .before .put-front-two) .ensures)))
+    let pre = c .before .before .before .before .before .before .before .before .pre in
+    (omega arith, (two-first (between-inner (two-shown ((c .before .before .before .before .before .before .before .before .args) .s .now) ((c .before .before .before .before .before .before .before .before .args) .k)) (pre .1 .0) ((c .before .before .before .put-front-two) .ensures)), pre .1 .1))
 
 print-two-print-node-requires-2 : (t : ℕ) → print-two-lts.Need-print-node-requires-2 (print-two-calls t) (print-two-at t) print-two.Post
 print-two-print-node-requires-2 t c κs =
-    let m = (c .before .before .before .before .before .before .before .before .before .before .before .before .pre) .0 in
-    (omega arith, two-second (between-inner (two-shown ((c .before .before .before .before .before .before .before .before .before .before .before .before .args) .s .now) ((c .before .before .before .before .before .before .before .before .before .before .before .before .args) .k)) ((c .before .before .before .before .before .before .before .before .before .before .before .before .pre) .1) ((c .before .before .before .before .before .before .before .put-front-two) .ensures)) ((c .before .before .before .print-node) .ensures))
+    let pre = c .before .before .before .before .before .before .before .before .before .before .before .before .pre in
+    (omega arith, (two-second (between-inner (two-shown ((c .before .before .before .before .before .before .before .before .before .before .before .before .args) .s .now) ((c .before .before .before .before .before .before .before .before .before .before .before .before .args) .k)) (pre .1 .0) ((c .before .before .before .before .before .before .before .put-front-two) .ensures)) ((c .before .before .before .print-node) .ensures), pre .1 .1))
 
 print-two-put-back-two-requires : (t : ℕ) → print-two-lts.Need-put-back-two-requires (print-two-calls t) (print-two-at t) print-two.Post
 print-two-put-back-two-requires t c κs =
-    between-back (two-shown ((c .before .before .before .before .before .before .before .before .before .before .before .before .before .before .before .before .args) .s .now) ((c .before .before .before .before .before .before .before .before .before .before .before .before .before .before .before .before .args) .k)) ((c .before .before .before .before .before .before .before .before .before .before .before .before .before .before .before .before .pre) .1) ((c .before .before .before .before .before .before .before .before .before .before .before .put-front-two) .ensures) (two-done ((c .before .before .before .before .before .before .before .print-node) .ensures) ((c .before .before .before .print-node2) .ensures))
+    between-back (two-shown ((c .before .before .before .before .before .before .before .before .before .before .before .before .before .before .before .before .args) .s .now) ((c .before .before .before .before .before .before .before .before .before .before .before .before .before .before .before .before .args) .k)) ((c .before .before .before .before .before .before .before .before .before .before .before .before .before .before .before .before .pre) .1 .0) ((c .before .before .before .before .before .before .before .before .before .before .before .put-front-two) .ensures) (two-done ((c .before .before .before .before .before .before .before .print-node) .ensures) ((c .before .before .before .print-node2) .ensures))
 
 print-two-same-length : (t : ℕ) → print-two-lts.Need-same-length (print-two-calls t) (print-two-at t) print-two.Post
 print-two-same-length t c = search needs

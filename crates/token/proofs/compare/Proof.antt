@@ -1,80 +1,139 @@
--- `token::compare` meets its contract: the first of the three words that differ decides.
+-- `token::compare` meets its contract. The loop's invariant: the words before k are the same, so what follows decides.
 -- Assumes nothing.
-use mathlib.Core.Path.{_≡_, sym, _∙_}
-use Prim.Native.Nat.{_<_}
-use native.Mathlib.Omega.{arith}
-use borrow.Author.Needs.{needs}
-use lib.ListN.{drop}
-use Rattle.token.specs.Key.{nameAt, wordOf, words, key}
+use mathlib.Core.Path.{_≡_, refl, sym, ap, _∙_}
+use Prim.Native.Nat.{ℕ, _+_, _-_, _*_, _/_, _≤_, _<_}
+use denote.Ref.{now}
+use lib.ListN.{length, drop, getD}
+use Rattle.text.specs.Text.{part}
+use Rattle.text.proofs.PartLaws.{part-length}
+use Rattle.token.specs.Key.{wordOf, wordsFrom, wordCount, words, key, cmp, Row}
 use Rattle.token.proofs.Ordered.{step-less, step-greater, step-equal}
+use Rattle.token.proofs.RowLaws.{row-inside}
+use Rattle.token.proofs.CompareLaws.{words-all, row-goes, ends-before, ends-with, ends-behind, decides}
+use borrow.Author.Needs.{needs}
+use native.Mathlib.Omega.{arith}
 use Rattle.token.proofs.compare.Statement.{statement}
 use Rattle.token.proofs.compare.Tie as tie
+use Rattle.token.proofs.compare.Reads as reads
+use Rattle.token.proofs.compare.Lts as lts
+use Rattle.token.proofs.word.Reads as word-reads
 
-first-word-requires : tie.Need-first-word-requires
-first-word-requires c κs = search needs
+abbrev Inv-loop : tie.InvT-loop
+Inv-loop at first s a e table n k₀ k =
+    (k ≤ n) × (n ≡ wordCount (e - a)) × ((i : ℕ) → Row at i → (k ≤ length (key i)) × (cmp (key i) (words (part a e s)) ≡ cmp (drop k (key i)) (wordsFrom (n - k) (4 * k) (part a e s))))
 
-returns : tie.Need-returns
-unfolding key words
+abbrev μ-loop : tie.MeasureT-loop
+μ-loop at first s a e table n k₀ k = n - k
+
+sub-n : tie.Need-sub-n Inv-loop μ-loop
+sub-n c = omega arith
+
+add-n : tie.Need-add-n Inv-loop μ-loop
+add-n c = omega arith
+
+loop-holds : tie.Need-loop-holds Inv-loop μ-loop
+loop-holds c =
+    let p = (c .before .args) in
+    let size = part-length (now (p .s)) (p .a) (p .e) ((c .before .pre) .1) ((c .before .pre) .2) in
+    (omega arith, refl, λ i row. (omega arith, ap (cmp (key i)) (words-all (part (p .a) (p .e) (now (p .s))) _ (rw size))))
+
+add-x : tie.Need-add-x Inv-loop μ-loop
+add-x c =
+    let inside = row-inside ((c .before .before .before .pre) .0 .1) ((c .before .loop) .k) ((c .before .loop) .inv .2 ((c .before .before .before .pre) .0 .0) ((c .before .before .before .pre) .0 .1) .0) in
+    omega arith
+
+mul-x : tie.Need-mul-x Inv-loop μ-loop
+mul-x c =
+    let inside = row-inside ((c .before .before .before .pre) .0 .1) ((c .before .loop) .k) ((c .before .loop) .inv .2 ((c .before .before .before .pre) .0 .0) ((c .before .before .before .pre) .0 .1) .0) in
+    omega arith
+
+element-copy-out-x : tie.Need-element-copy-out-x Inv-loop μ-loop
+element-copy-out-x c =
+    let inside = row-inside ((c .before .before .before .pre) .0 .1) ((c .before .loop) .k) ((c .before .loop) .inv .2 ((c .before .before .before .pre) .0 .0) ((c .before .before .before .pre) .0 .1) .0) in
+    omega arith
+
+returns : tie.Need-returns Inv-loop μ-loop
 returns c =
-    let p = c .before .before .args in
-    let x : wordOf (nameAt (p .i)) < p .first = omega arith in
-    sym (step-less _ _ _ x)
+    λ i row. let v = (c .before .before .before .loop) .inv .2 i row in
+    sym (v .1 ∙ ends-before ((c .before .before .before .before .before .pre) .4) row ((c .before .before .before .loop) .k) (v .0) (part ((c .before .before .before .before .before .args) .a) ((c .before .before .before .before .before .args) .e) (now ((c .before .before .before .before .before .args) .s))) _ ((c .before .before .loop-test) .taken) ((c .if1) .taken))
 
-returns-2 : tie.Need-returns-2
-unfolding key words
+word-requires : tie.Need-word-requires Inv-loop μ-loop
+word-requires c κs =
+    (omega arith, (c .before .before .before .before .before .pre) .2, (c .before .before .before .before .before .pre) .3)
+
+returns-2 : tie.Need-returns-2 Inv-loop μ-loop
 returns-2 c =
-    let p = c .before .before .before .args in
-    let x : p .first < wordOf (nameAt (p .i)) = omega arith in
-    sym (step-greater _ _ _ x)
+    λ i row. let v = (c .before .before .before .before .before .loop) .inv .2 i row in
+    sym (v .1 ∙ decides ((c .before .before .before .before .before .before .before .pre) .4) row ((c .before .before .before .before .before .loop) .k) (v .0) (part ((c .before .before .before .before .before .before .before .args) .a) ((c .before .before .before .before .before .before .before .args) .e) (now ((c .before .before .before .before .before .before .before .args) .s))) _ ((c .before .before .before .before .loop-test) .taken) ((c .before .before .if1) .left) _ ((c .before .word) .ensures) ∙ step-less _ _ _ ((c .if2) .taken))
 
-second-word-requires : tie.Need-second-word-requires
-second-word-requires c κs = search needs
-
-returns-3 : tie.Need-returns-3
-unfolding key words
+returns-3 : tie.Need-returns-3 Inv-loop μ-loop
 returns-3 c =
-    let p = c .before .before .before .before .before .args in
-    let x : wordOf (nameAt (p .i)) ≡ p .first = omega arith in
-    let y : wordOf (drop 8 (nameAt (p .i))) < p .second = omega arith in
-    sym (step-equal _ _ _ x ∙ step-less _ _ _ y)
+    λ i row. let v = (c .before .before .before .before .before .before .loop) .inv .2 i row in
+    sym (v .1 ∙ decides ((c .before .before .before .before .before .before .before .before .pre) .4) row ((c .before .before .before .before .before .before .loop) .k) (v .0) (part ((c .before .before .before .before .before .before .before .before .args) .a) ((c .before .before .before .before .before .before .before .before .args) .e) (now ((c .before .before .before .before .before .before .before .before .args) .s))) _ ((c .before .before .before .before .before .loop-test) .taken) ((c .before .before .before .if1) .left) _ ((c .before .before .word) .ensures) ∙ step-greater _ _ _ ((c .if3) .taken))
 
-returns-4 : tie.Need-returns-4
-unfolding key words
+add-k : tie.Need-add-k Inv-loop μ-loop
+add-k c = omega arith
+
+loop-less : tie.Need-loop-less Inv-loop μ-loop
+loop-less c = omega arith
+
+loop-again : tie.Need-loop-again Inv-loop μ-loop
+loop-again c =
+    let same : getD (now ((c .before .before .before .before .before .before .before .before .args) .table)) ((c .before .before .before .before .before .before .before .before .args) .at + (c .before .before .before .before .before .before .loop) .k) 0 ≡ (c .before .before .word) .result = omega arith in (
+      omega arith,
+      (c .before .before .before .before .before .before .loop) .inv .1,
+      λ i row. let v = (c .before .before .before .before .before .before .loop) .inv .2 i row in
+          (row-goes ((c .before .before .before .before .before .before .before .before .pre) .4) row ((c .before .before .before .before .before .before .loop) .k) (v .0) ((c .before .before .before .if1) .left), v .1 ∙ decides ((c .before .before .before .before .before .before .before .before .pre) .4) row ((c .before .before .before .before .before .before .loop) .k) (v .0) (part ((c .before .before .before .before .before .before .before .before .args) .a) ((c .before .before .before .before .before .before .before .before .args) .e) (now ((c .before .before .before .before .before .before .before .before .args) .s))) _ ((c .before .before .before .before .before .loop-test) .taken) ((c .before .before .before .if1) .left) _ ((c .before .before .word) .ensures) ∙ step-equal _ _ _ same),
+    )
+
+add-if4 : tie.Need-add-if4 Inv-loop μ-loop
+add-if4 c =
+    let inside = row-inside ((c .before .before .before .pre) .0 .1) ((c .before .loop) .k) ((c .before .loop) .inv .2 ((c .before .before .before .pre) .0 .0) ((c .before .before .before .pre) .0 .1) .0) in
+    omega arith
+
+mul-if4 : tie.Need-mul-if4 Inv-loop μ-loop
+mul-if4 c =
+    let inside = row-inside ((c .before .before .before .pre) .0 .1) ((c .before .loop) .k) ((c .before .loop) .inv .2 ((c .before .before .before .pre) .0 .0) ((c .before .before .before .pre) .0 .1) .0) in
+    omega arith
+
+element-copy-out-if4 : tie.Need-element-copy-out-if4 Inv-loop μ-loop
+element-copy-out-if4 c =
+    let inside = row-inside ((c .before .before .before .pre) .0 .1) ((c .before .loop) .k) ((c .before .loop) .inv .2 ((c .before .before .before .pre) .0 .0) ((c .before .before .before .pre) .0 .1) .0) in
+    omega arith
+
+returns-4 : tie.Need-returns-4 Inv-loop μ-loop
 returns-4 c =
-    let p = c .before .before .before .before .before .before .args in
-    let x : wordOf (nameAt (p .i)) ≡ p .first = omega arith in
-    let y : p .second < wordOf (drop 8 (nameAt (p .i))) = omega arith in
-    sym (step-equal _ _ _ x ∙ step-greater _ _ _ y)
+    let all : ((c .before .before .before .before .before .args) .e - (c .before .before .before .before .before .args) .a + 3) / 4 ≡ (c .before .before .before .loop) .k = omega arith in
+    λ i row. let v = (c .before .before .before .loop) .inv .2 i row in
+    sym (v .1 ∙ ends-with ((c .before .before .before .before .before .pre) .4) row ((c .before .before .before .loop) .k) (v .0) (part ((c .before .before .before .before .before .args) .a) ((c .before .before .before .before .before .args) .e) (now ((c .before .before .before .before .before .args) .s))) _ ((c .before .before .loop-test) .left) (rw all at ((c .if4) .taken)))
 
-third-word-requires : tie.Need-third-word-requires
-third-word-requires c κs = search needs
-
-returns-5 : tie.Need-returns-5
-unfolding key words
+returns-5 : tie.Need-returns-5 Inv-loop μ-loop
 returns-5 c =
-    let p = c .before .before .before .before .before .before .before .before .args in
-    let x : wordOf (nameAt (p .i)) ≡ p .first = omega arith in
-    let y : wordOf (drop 8 (nameAt (p .i))) ≡ p .second = omega arith in
-    let z : wordOf (drop 16 (nameAt (p .i))) < p .third = omega arith in
-    sym (step-equal _ _ _ x ∙ step-equal _ _ _ y ∙ step-less _ _ _ z)
-
-returns-6 : tie.Need-returns-6
-unfolding key words
-returns-6 c =
-    let p = c .before .before .before .before .before .before .before .before .before .args in
-    let x : wordOf (nameAt (p .i)) ≡ p .first = omega arith in
-    let y : wordOf (drop 8 (nameAt (p .i))) ≡ p .second = omega arith in
-    let z : p .third < wordOf (drop 16 (nameAt (p .i))) = omega arith in
-    sym (step-equal _ _ _ x ∙ step-equal _ _ _ y ∙ step-greater _ _ _ z)
-
-returns-7 : tie.Need-returns-7
-unfolding key words
-returns-7 c =
-    let p = c .before .before .before .before .before .before .before .before .before .args in
-    let x : wordOf (nameAt (p .i)) ≡ p .first = omega arith in
-    let y : wordOf (drop 8 (nameAt (p .i))) ≡ p .second = omega arith in
-    let z : wordOf (drop 16 (nameAt (p .i))) ≡ p .third = omega arith in
-    sym (step-equal _ _ _ x ∙ step-equal _ _ _ y ∙ step-equal _ _ _ z)
+    let all : ((c .before .before .before .before .before .args) .e - (c .before .before .before .before .before .args) .a + 3) / 4 ≡ (c .before .before .before .loop) .k = omega arith in
+    λ i row. let v = (c .before .before .before .loop) .inv .2 i row in
+    sym (v .1 ∙ ends-behind ((c .before .before .before .before .before .pre) .4) row ((c .before .before .before .loop) .k) (v .0) (part ((c .before .before .before .before .before .args) .a) ((c .before .before .before .before .before .args) .e) (now ((c .before .before .before .before .before .args) .s))) _ ((c .before .before .loop-test) .left) (rw all at ((c .if4) .left)))
 
 pub compare-spec : {M : Type 1} → statement M
-compare-spec = tie.close (tie.spec first-word-requires returns returns-2 second-word-requires returns-3 returns-4 third-word-requires returns-5 returns-6 returns-7)
+compare-spec =
+    tie.close
+    (tie.spec
+    Inv-loop
+    μ-loop
+    sub-n
+    add-n
+    loop-holds
+    add-x
+    mul-x
+    element-copy-out-x
+    returns
+    word-requires
+    returns-2
+    returns-3
+    add-k
+    loop-less
+    loop-again
+    add-if4
+    mul-if4
+    element-copy-out-if4
+    returns-4
+    returns-5)

@@ -1,72 +1,88 @@
 -- `token::from_command` meets its contract: a name that the table can have is where the search finds it, and no other has an arm.
 -- Assumes nothing.
-use mathlib.Core.Path.{sym, _∙_}
+use mathlib.Core.Path.{_≡_, sym, ap, _∙_}
+use Prim.Native.Nat.{_+_, _-_, _/_}
 use denote.Ref.{now}
+use lib.ListN.{length, getD}
 use Rattle.text.specs.Text.{part}
-use Rattle.token.specs.Key.{words}
-use Rattle.token.proofs.Packed.{Bytes, empty-part, long-part, zero-part, name-part}
-use Rattle.token.proofs.Agree.{unnamed, at-place, at-none}
-use native.Mathlib.Omega.{arith}
+use Rattle.text.proofs.PartLaws.{part-length}
+use Rattle.token.specs.Code.{tokenOf}
+use Rattle.token.specs.Key.{key, start}
+use Rattle.token.proofs.Packed.{Bytes, words-length, empty-part, zero-part, name-part}
+use Rattle.token.proofs.RowLaws.{table-length, row-inside, code-token}
+use Rattle.token.proofs.Agree.{unnamed, at-row, at-none}
 use borrow.Author.Needs.{needs}
+use native.Mathlib.Omega.{arith}
 use Rattle.token.proofs.from_command.Statement.{statement}
 use Rattle.token.proofs.from_command.Tie as tie
+use Rattle.token.proofs.from_command.Reads as reads
+use Rattle.token.proofs.from_command.Lts as lts
+use Rattle.token.proofs.search.Reads as search-reads
+use Rattle.token.proofs.table.token_of.Reads as token-of-reads
 
 returns : tie.Need-returns
 returns c =
-    let p = c .before .before .args in
-    sym (unnamed (part (p .a) (p .e) (now (p .s))) _ (empty-part (now (p .s)) (p .a) (p .e) (omega arith) (omega arith) (c .if1 .taken)))
+    let p = (c .before .before .args) in
+    sym (unnamed (part (p .a) (p .e) (now (p .s))) _ (empty-part (now (p .s)) (p .a) (p .e) ((c .before .before .pre) .0) ((c .before .before .pre) .1) ((c .if1) .taken)))
 
 sub-if2 : tie.Need-sub-if2
 sub-if2 c = search needs
 
+shared-slice-read-if2 : tie.Need-shared-slice-read-if2
+shared-slice-read-if2 c = search needs
+
 returns-2 : tie.Need-returns-2
 returns-2 c =
-    let p = c .before .before .before .args in
-    sym (unnamed (part (p .a) (p .e) (now (p .s))) _ (long-part (now (p .s)) (p .a) (p .e) (omega arith) (omega arith) (c .if2 .taken)))
-
-sub-if3 : tie.Need-sub-if3
-sub-if3 c = search needs
-
-shared-slice-read-if3 : tie.Need-shared-slice-read-if3
-shared-slice-read-if3 c = search needs
-
-returns-3 : tie.Need-returns-3
-returns-3 c =
-    let p = c .before .before .before .before .before .args in
-    sym (unnamed (part (p .a) (p .e) (now (p .s))) _ (zero-part (now (p .s)) (p .a) (p .e) (omega arith) (omega arith) (c .before .before .before .if1 .left) (c .if3 .taken)))
-
-pack-requires : tie.Need-pack-requires
-pack-requires c κs = search needs
-
-pack-requires-2 : tie.Need-pack-requires-2
-pack-requires-2 c κs = search needs
-
-pack-requires-3 : tie.Need-pack-requires-3
-pack-requires-3 c κs = search needs
+    let p = (c .before .before .before .before .args) in
+    sym (unnamed (part (p .a) (p .e) (now (p .s))) _ (zero-part (now (p .s)) (p .a) (p .e) ((c .before .before .before .before .pre) .0) ((c .before .before .before .before .pre) .1) ((c .before .before .if1) .left) ((c .if2) .taken)))
 
 search-requires : tie.Need-search-requires
 search-requires c κs = search needs
 
-token-at-requires : tie.Need-token-at-requires
-token-at-requires c κs = search needs
+sub-token-of : tie.Need-sub-token-of
+sub-token-of c = search needs
+
+add-token-of : tie.Need-add-token-of
+add-token-of c = search needs
+
+add-token-of-2 : tie.Need-add-token-of-2
+add-token-of-2 c = search needs
+
+mul-token-of : tie.Need-mul-token-of
+mul-token-of c = search needs
+
+element-copy-out-token-of : tie.Need-element-copy-out-token-of
+element-copy-out-token-of c =
+    let p = (c .before .before .before .before .before .before .args) in
+    let f = (c .before .search) .ensures .found (omega (arith, table-length)) in
+    let long = part-length (now (p .s)) (p .a) (p .e) ((c .before .before .before .before .before .before .pre) .0) ((c .before .before .before .before .before .before .pre) .1) in
+    let size = ap length (f .2) ∙ words-length (part (p .a) (p .e) (now (p .s))) in
+    let inside = row-inside (f .1) (length (key (f .0))) (omega arith) in
+    omega arith
+
+token-of-requires : tie.Need-token-of-requires
+token-of-requires c κs = search needs
+
+returns-3 : tie.Need-returns-3
+returns-3 c =
+    let p = (c .before .before .before .before .before .before .before .before .args) in
+    let l = part (p .a) (p .e) (now (p .s)) in
+    let f = (c .before .before .before .search) .ensures .found (omega (arith, table-length)) in
+    let long = part-length (now (p .s)) (p .a) (p .e) ((c .before .before .before .before .before .before .before .before .pre) .0) ((c .before .before .before .before .before .before .before .before .pre) .1) in
+    let size = ap length (f .2) ∙ words-length l in
+    let begins = f .1 .begins in
+    let code : (c .before .before .before .search) .result + (p .e - p .a + 3) / 4 ≡ start (f .0) + length (key (f .0)) = omega arith in
+    let bytes : Bytes (now (p .s)) = λ i. omega (arith, (c .before .before .before .before .before .before .before .shared-slice-known) .given i) in
+    let name = name-part (now (p .s)) (p .a) (p .e) ((c .before .before .before .before .before .before .before .before .pre) .0) ((c .before .before .before .before .before .before .before .before .pre) .1) bytes ((c .before .before .before .before .before .before .if1) .left) ((c .before .before .before .before .if2) .left) in
+    (c .token-of) .ensures
+    ∙ ap (λ n. tokenOf (getD (now (p .table)) n 0)) code
+    ∙ code-token ((c .before .before .before .before .before .before .before .before .pre) .2) (f .0) (f .1 .inside)
+    ∙ sym (at-row l _ name (f .0) (f .1 .inside) (f .2))
 
 returns-4 : tie.Need-returns-4
-unfolding words
 returns-4 c =
-    let at = c .before .before in
-    let p = at .before .before .before .before .before .before .before .before .before .args in
-    let place = rw (at .before .before .before .pack .ensures, at .before .before .pack2 .ensures, at .before .pack3 .ensures) at (at .search .ensures) in
-    let bytes : Bytes (now (p .s)) = λ i. omega (arith, at .before .before .before .before .before .before .before .before .shared-slice-known .given i) in
-    let name = name-part (now (p .s)) (p .a) (p .e) (omega arith) (omega arith) bytes (at .before .before .before .before .before .before .before .if1 .left) (at .before .before .before .before .before .before .if2 .left) (at .before .before .before .before .if3 .left) in
-    c .token-at .ensures ∙ sym (at-place (part (p .a) (p .e) (now (p .s))) _ name (at .search .result) (c .before .if4 .taken) place)
-
-returns-5 : tie.Need-returns-5
-unfolding words
-returns-5 c =
-    let at = c .before in
-    let p = at .before .before .before .before .before .before .before .before .before .args in
-    let place = rw (at .before .before .before .pack .ensures, at .before .before .pack2 .ensures, at .before .pack3 .ensures) at (at .search .ensures) in
-    sym (at-none (part (p .a) (p .e) (now (p .s))) _ (at .search .result) (c .if4 .left) place)
+    let p = (c .before .before .before .before .before .before .args) in
+    sym (at-none (part (p .a) (p .e) (now (p .s))) _ ((c .before .search) .ensures .none (omega (arith, table-length))))
 
 pub from-command-spec : {M : Type 1} → statement M
 from-command-spec =
@@ -74,14 +90,14 @@ from-command-spec =
     (tie.spec
     returns
     sub-if2
+    shared-slice-read-if2
     returns-2
-    sub-if3
-    shared-slice-read-if3
-    returns-3
-    pack-requires
-    pack-requires-2
-    pack-requires-3
     search-requires
-    token-at-requires
-    returns-4
-    returns-5)
+    sub-token-of
+    add-token-of
+    add-token-of-2
+    mul-token-of
+    element-copy-out-token-of
+    token-of-requires
+    returns-3
+    returns-4)

@@ -12,10 +12,10 @@ use Rattle.token.proofs.pack.Statement.{statement}
 use Rattle.token.proofs.pack.Tie as tie
 
 abbrev Inv-loop : tie.InvT-loop
-Inv-loop s a e from word₀ k₀ word k = (k ≤ 8) × (word < 256 ^ k) × (word ≡ packed k (drop from (part a e s)))
+Inv-loop s a e from word₀ k₀ word k = (k ≤ 4) × (word < 256 ^ k) × (word ≡ packed k (drop from (part a e s)))
 
 abbrev μ-loop : tie.MeasureT-loop
-μ-loop s a e from word₀ k₀ word k = 8 - k
+μ-loop s a e from word₀ k₀ word k = 4 - k
 
 loop-holds : tie.Need-loop-holds Inv-loop μ-loop
 unfolding packed
@@ -53,7 +53,7 @@ returns : tie.Need-returns Inv-loop μ-loop
 unfolding wordOf
 returns c =
     let p = c .before .before .before .args in
-    let k : c .before .loop .k ≡ 8 = omega arith in
+    let k : c .before .loop .k ≡ 4 = omega arith in
     c .before .loop .inv .2 ∙ ap (λ k. packed k (drop (p .from) (part (p .a) (p .e) (now (p .s))))) k
 
 pub pack-spec : {M : Type 1} → statement M

@@ -1,30 +1,39 @@
--- `token::search` meets its contract. The loop's invariant: each name before `lo` is less than the one looked for, and each from `hi`
--- on is greater, by the table's order. Where they meet, no name of the table is the one looked for.
+-- `token::search` meets its contract. The loop's invariant: each name whose row begins before `lo` is less than the one looked for, and
+-- each whose row begins from `hi` on is greater, by the table's order. Where they meet, no name of the table is the one looked for.
 -- Assumes nothing.
 use mathlib.Core.Path.{_≡_, sym, ap, _∙_}
-use mathlib.Core.List.{List, [], _∷_}
 use Prim.Native.Nat.{ℕ, _+_, _-_, _/_, _≤_, _<_}
-use native.Mathlib.Omega.{arith}
-use borrow.Author.Needs.{needs}
+use denote.Ref.{now}
+use Rattle.text.specs.Text.{part}
 use Rattle.token.specs.declared.Ordering.the-variants.{Less, Equal, Greater}
 use Rattle.token.specs.Table.{size}
-use Rattle.token.specs.Key.{key, cmp}
+use Rattle.token.specs.Key.{words, key, start, cmp}
 use Rattle.token.proofs.Ordered.{cmp-equal, all-less, all-greater, none-between}
 use Rattle.token.proofs.Agree.{rising}
+use Rattle.token.proofs.RowLaws.{table-length, start-last, start-less, first-rows, last-rows}
+use borrow.Author.Needs.{needs}
+use native.Mathlib.Omega.{arith}
 use Rattle.token.proofs.search.Statement.{statement}
 use Rattle.token.proofs.search.Tie as tie
+use Rattle.token.proofs.search.Reads as reads
+use Rattle.token.proofs.search.Lts as lts
+use Rattle.token.proofs.compare.Reads as compare-reads
+use Rattle.token.proofs.pack.Reads as pack-reads
+use Rattle.token.proofs.row_of.Reads as row-of-reads
 
 abbrev Inv-loop : tie.InvT-loop
-Inv-loop first second third lo₀ hi₀ lo hi = (lo ≤ hi)
-    × (hi ≤ size)
-    × ((i : ℕ) → i < lo → cmp (key i) (first ∷ second ∷ third ∷ []) ≡ Less)
-    × ((i : ℕ) → hi ≤ i → i < size → cmp (key i) (first ∷ second ∷ third ∷ []) ≡ Greater)
+Inv-loop s a e table first lo₀ hi₀ lo hi =
+    (hi ≤ 1409) × ((i : ℕ) → i < size → start i < lo → cmp (key i) (words (part a e s)) ≡ Less) × ((i : ℕ) → i < size → hi ≤ start i → cmp (key i) (words (part a e s)) ≡ Greater)
 
 abbrev μ-loop : tie.MeasureT-loop
-μ-loop first second third lo₀ hi₀ lo hi = hi - lo
+μ-loop s a e table first lo₀ hi₀ lo hi = hi - lo
+
+pack-requires : tie.Need-pack-requires Inv-loop μ-loop
+pack-requires c κs = omega arith
 
 loop-holds : tie.Need-loop-holds Inv-loop μ-loop
-loop-holds c = (omega arith, omega arith, (λ i l. absurd (omega arith)), (λ i l m. absurd (omega arith)))
+loop-holds c =
+    (omega arith, (λ i h l. absurd (omega arith)), (λ i h l. absurd (omega (arith, table-length, start-last, start-less i size h (omega arith)))))
 
 sub-mid : tie.Need-sub-mid Inv-loop μ-loop
 sub-mid c = omega arith
@@ -32,8 +41,12 @@ sub-mid c = omega arith
 add-mid : tie.Need-add-mid Inv-loop μ-loop
 add-mid c = omega arith
 
+row-of-requires : tie.Need-row-of-requires Inv-loop μ-loop
+row-of-requires c κs = (omega (arith, table-length), (c .before .before .before .before .pre) .2)
+
 compare-requires : tie.Need-compare-requires Inv-loop μ-loop
-compare-requires c κs = omega arith
+compare-requires c κs =
+    (((c .row-of) .ensures .0, (c .row-of) .ensures .1 .row), (c .before .before .before .before .before .pre) .0, (c .before .before .before .before .before .pre) .1, (c .before .before .before .pack) .ensures, (c .before .before .before .before .before .pre) .2)
 
 enum-told : tie.Need-enum-told Inv-loop μ-loop
 enum-told c = search needs
@@ -46,37 +59,59 @@ loop-less c = omega arith
 
 loop-again : tie.Need-loop-again Inv-loop μ-loop
 loop-again c =
-    let at = c .before .before .before .before in
-    let here = sym (c .before .before .compare .ensures) ∙ c .enum-told .given .1 in
-    (omega arith, omega arith, all-less key size rising _ _ (omega arith) here, at .loop .inv .3)
+    let has = (c .before .before .before .row-of) .ensures .1 in
+    let here = sym ((c .before .before .compare) .ensures ((c .before .before .before .row-of) .ensures .0) (has .row)) ∙ (c .enum-told) .given .1 in
+    (omega arith, (λ i h l. all-less key size rising _ ((c .before .before .before .row-of) .ensures .0) (has .row .inside) here i (first-rows has i h (omega arith))), (c .before .before .before .before .before .loop) .inv .2)
 
 enum-told-2 : tie.Need-enum-told-2 Inv-loop μ-loop
 enum-told-2 c = search needs
 
 returns : tie.Need-returns Inv-loop μ-loop
 returns c =
-    let here = sym (c .before .before .compare .ensures) ∙ c .enum-told2 .given .1 in
-    record { found = λ l. cmp-equal _ _ here; none = λ l. absurd (omega arith) }
+    let has = (c .before .before .before .row-of) .ensures .1 in
+    let here = sym ((c .before .before .compare) .ensures ((c .before .before .before .row-of) .ensures .0) (has .row)) ∙ (c .enum-told2) .given .1 in
+    record { found = λ l. ((c .before .before .before .row-of) .ensures .0, has .row, cmp-equal _ _ here); none = λ l. absurd (omega (arith, table-length, has .from)) }
 
 enum-told-3 : tie.Need-enum-told-3 Inv-loop μ-loop
 enum-told-3 c = search needs
 
 loop-less-2 : tie.Need-loop-less-2 Inv-loop μ-loop
-loop-less-2 c = omega arith
+loop-less-2 c =
+    let has = (c .before .before .before .row-of) .ensures .1 in
+    omega (arith, has .from)
 
 loop-again-2 : tie.Need-loop-again-2 Inv-loop μ-loop
 loop-again-2 c =
-    let at = c .before .before .before .before in
-    let here = sym (c .before .before .compare .ensures) ∙ c .enum-told3 .given .1 in
-    (omega arith, omega arith, at .loop .inv .2, all-greater key size rising _ _ (omega arith) here)
+    let has = (c .before .before .before .row-of) .ensures .1 in
+    let here = sym ((c .before .before .compare) .ensures ((c .before .before .before .row-of) .ensures .0) (has .row)) ∙ (c .enum-told3) .given .1 in
+    (omega (arith, has .from), (c .before .before .before .before .before .loop) .inv .1, (λ i h l. all-greater key size rising _ ((c .before .before .before .row-of) .ensures .0) (has .row .inside) here i (last-rows has i h l) h))
 
 returns-2 : tie.Need-returns-2 Inv-loop μ-loop
 returns-2 c =
-    let at = c .before in
     record {
-      found = λ l. absurd (omega arith);
-      none = λ l. none-between key size rising _ (at .loop .lo) (at .loop .hi) (c .loop-test .left) (at .loop .inv .2) (at .loop .inv .3);
+      found = λ l. absurd (omega (arith, table-length));
+      none = λ l. none-between key size rising _ start ((c .before .loop) .lo) ((c .before .loop) .hi) ((c .loop-test) .left) ((c .before .loop) .inv .1) ((c .before .loop) .inv .2);
     }
 
 pub search-spec : {M : Type 1} → statement M
-search-spec = tie.close (tie.spec Inv-loop μ-loop loop-holds sub-mid add-mid compare-requires enum-told add-lo loop-less loop-again enum-told-2 returns enum-told-3 loop-less-2 loop-again-2 returns-2)
+search-spec =
+    tie.close
+    (tie.spec
+    Inv-loop
+    μ-loop
+    pack-requires
+    loop-holds
+    sub-mid
+    add-mid
+    row-of-requires
+    compare-requires
+    enum-told
+    add-lo
+    loop-less
+    loop-again
+    enum-told-2
+    returns
+    enum-told-3
+    loop-less-2
+    loop-again-2
+    returns-2)

@@ -13,8 +13,8 @@ use Rattle.latex2mathml.proofs.replace.settle.Reads as settle-reads
 
 second-pass-requires : tie.Need-second-pass-requires
 second-pass-requires c κs =
-    let small = (c .before .before .before .before .before .before .pre) in
-    omega arith
+    let small = (c .before .before .before .before .before .before .pre .0) in
+    (omega arith, c .before .before .before .before .before .before .pre .1)
 
 enum-known-r : tie.Need-enum-known-r
 enum-known-r c = search needs
@@ -37,7 +37,7 @@ settle-requires : tie.Need-settle-requires
 settle-requires c κs =
     let a = (rw ((c .before .before .before .before .before .n) .given .1) at ((c .before .before .before .before .before .before .before .before .before .before .before .second-pass) .ensures)) .0 in
     rw ((c .before .before .before .before .before .before .before .before .before .before .before .second-pass) .kept .1 .0)
-    (finish-passable (length ((c .before .before .before .before .before .before .before .before .before .before .before .before .before .before .before .before .before .before .args) .store .now)) ((c .before .before .before .before .before .before .before .before .before .before .before .before .before .before .before .before .before .before .args) .text .now) ((c .before .before .before .before .before .n) .given .0 .0) ((c .before .before .before .before .before .before .before .before .before .before .before .before .before .before .before .before .before .before .args) .out .now) ((c .before .before .before .before .before .before .before .before .before .before .before .before .before .before .before .before .before .before .args) .draft .now) ((c .before .before .before .before .before .before .before .before .before .before .before .second-pass) .last .1 .1 .0) a (c .before .before .before .before .before .before .before .before .before .before .before .before .before .before .before .before .before .before .pre) ((c .before .before .before .if1) .left), finish-begins (length ((c .before .before .before .before .before .before .before .before .before .before .before .before .before .before .before .before .before .before .args) .store .now)) ((c .before .before .before .before .before .before .before .before .before .before .before .before .before .before .before .before .before .before .args) .text .now) ((c .before .before .before .before .before .n) .given .0 .0) ((c .before .before .before .before .before .before .before .before .before .before .before .before .before .before .before .before .before .before .args) .out .now) ((c .before .before .before .before .before .before .before .before .before .before .before .before .before .before .before .before .before .before .args) .draft .now) ((c .before .before .before .before .before .before .before .before .before .before .before .second-pass) .last .1 .1 .0) a ((c .before .before .before .before .before .before .before .before .before .before .before .second-pass) .kept .1 .1 .0))
+    (finish-passable (length ((c .before .before .before .before .before .before .before .before .before .before .before .before .before .before .before .before .before .before .args) .store .now)) ((c .before .before .before .before .before .before .before .before .before .before .before .before .before .before .before .before .before .before .args) .text .now) ((c .before .before .before .before .before .n) .given .0 .0) ((c .before .before .before .before .before .before .before .before .before .before .before .before .before .before .before .before .before .before .args) .out .now) ((c .before .before .before .before .before .before .before .before .before .before .before .before .before .before .before .before .before .before .args) .draft .now) ((c .before .before .before .before .before .before .before .before .before .before .before .second-pass) .last .1 .1 .0) a (c .before .before .before .before .before .before .before .before .before .before .before .before .before .before .before .before .before .before .pre .0) ((c .before .before .before .if1) .left), finish-begins (length ((c .before .before .before .before .before .before .before .before .before .before .before .before .before .before .before .before .before .before .args) .store .now)) ((c .before .before .before .before .before .before .before .before .before .before .before .before .before .before .before .before .before .before .args) .text .now) ((c .before .before .before .before .before .n) .given .0 .0) ((c .before .before .before .before .before .before .before .before .before .before .before .before .before .before .before .before .before .before .args) .out .now) ((c .before .before .before .before .before .before .before .before .before .before .before .before .before .before .before .before .before .before .args) .draft .now) ((c .before .before .before .before .before .before .before .before .before .before .before .second-pass) .last .1 .1 .0) a ((c .before .before .before .before .before .before .before .before .before .before .before .second-pass) .kept .1 .1 .0), c .before .before .before .before .before .before .before .before .before .before .before .before .before .before .before .before .before .before .pre .1)
 
 same-length-3 : tie.Need-same-length-3
 same-length-3 c = search needs

@@ -70,7 +70,7 @@ returns-6 c =
 substitute-requires : tie.Need-substitute-requires
 substitute-requires c κs =
     let checked : Checked ((c .before .before .before .before .before .before .before .before .before .before .before .before .before .before .args) .document .now) = record { short = (c .before .before .before .before .before .before .before .before .before .before .if1) .left; well = (sym ((c .before .before .before .before .before .before .before .before .before .well-formed) .ensures) ∙ not-false _ ((c .before .before .before .before .before .before .before .before .if2) .left)); even = sym ((c .before .before .before .before .before .odd-marks) .ensures) ∙ (c .before .before .before .before .if5) .left; apart = sym ((c .before .before .before .three-dollars) .ensures) ∙ (c .before .before .if6) .left } in
-    checked-passable ((c .before .before .before .before .before .before .before .before .before .before .before .before .before .before .args) .document .now) (length ((c .before .before .before .before .before .before .before .before .before .before .before .before .before .before .args) .store .now)) ((c .before .before .before .before .before .before .before .before .before .before .before .before .before .before .args) .out .now) checked
+    (checked-passable ((c .before .before .before .before .before .before .before .before .before .before .before .before .before .before .args) .document .now) (length ((c .before .before .before .before .before .before .before .before .before .before .before .before .before .before .args) .store .now)) ((c .before .before .before .before .before .before .before .before .before .before .before .before .before .before .args) .out .now) checked, c .before .before .before .before .before .before .before .before .before .before .before .before .before .before .pre)
 
 enum-known-r : tie.Need-enum-known-r
 enum-known-r c = search needs

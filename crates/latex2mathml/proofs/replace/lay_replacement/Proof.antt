@@ -36,8 +36,8 @@ second-pass-requires c κs =
     let q = rw ((c .before .before .before .before .n) .given .1) at ((c .before .before .before .before .before .before .before .before .before .before .first-pass) .ensures) in
     let dr = drafted-laid ((c .before .before .before .before .before .before .before .before .before .before .before .before .before .before .before .before .before .args) .document .now) (length ((c .before .before .before .before .before .before .before .before .before .before .before .before .before .before .before .before .before .args) .store .now)) ((c .before .before .before .before .before .before .before .before .before .before .before .before .before .before .before .before .before .args) .work .now) ((c .before .before .before .before .before .before .before .before .before .before .first-pass) .last .1 .1 .1 .0) ((c .before .before .before .before .n) .given .0 .0) (q .0) ((c .before .before .before .before .before .before .before .before .before .before .first-pass) .kept .1 .1 .1 .0) (q .1) in
     let small = front-small ((c .before .before .before .before .before .before .before .before .before .before .before .before .before .before .before .before .before .args) .document .now) (length ((c .before .before .before .before .before .before .before .before .before .before .before .before .before .before .before .before .before .args) .store .now)) ((c .before .before .before .before .before .before .before .before .before .before .before .before .before .before .before .before .before .args) .work .now) _ _ dr in
-    let room = (c .before .before .before .before .before .before .before .before .before .before .before .before .before .before .before .before .before .pre) in
-    omega arith
+    let room = (c .before .before .before .before .before .before .before .before .before .before .before .before .before .before .before .before .before .pre .0) in
+    (omega arith, c .before .before .before .before .before .before .before .before .before .before .before .before .before .before .before .before .before .pre .1)
 
 same-length : tie.Need-same-length
 same-length c = search needs

@@ -20,7 +20,7 @@ first-mark-requires c κs = search needs
 
 lay-requires : tie.Need-lay-requires
 lay-requires c κs =
-    let room = (c .before .before .before .before .before .before .pre) in
+    let room = (c .before .before .before .before .before .before .pre .0) in
     omega arith
 
 same-length : tie.Need-same-length
@@ -40,7 +40,7 @@ returns-2 c =
 
 substitute-requires : tie.Need-substitute-requires
 substitute-requires c κs =
-    second-able (length ((c .before .before .before .before .before .before .before .before .before .args) .store .now)) ((c .before .before .before .before .before .before .before .before .before .args) .text .now) _ _ (c .before .before .before .before .before .before .before .before .before .pre) (sym ((c .before .before .before .odd-marks) .ensures) ∙ (c .before .before .if2) .left)
+    (second-able (length ((c .before .before .before .before .before .before .before .before .before .args) .store .now)) ((c .before .before .before .before .before .before .before .before .before .args) .text .now) _ _ (c .before .before .before .before .before .before .before .before .before .pre .0) (sym ((c .before .before .before .odd-marks) .ensures) ∙ (c .before .before .if2) .left), c .before .before .before .before .before .before .before .before .before .pre .1)
 
 same-length-2 : tie.Need-same-length-2
 same-length-2 c = search needs

@@ -14,6 +14,7 @@ use Rattle.latex2mathml.proofs.translate.latex_to_mathml.Lts as lts
 use Rattle.latex2mathml.proofs.translate.put_math.Reads as put-math-reads
 use Rattle.parse.proofs.body.parse.Reads as parse-reads
 use Rattle.text.proofs.well_formed.Reads as well-formed-reads
+use Rattle.token.proofs.table.table.Reads as table-reads
 
 returns : tie.Need-returns
 returns c =
@@ -28,8 +29,11 @@ returns-2 c =
     let g = gives-nothing ((c .before .before .before .before .before .before .args) .out .now) (ill-formed ((c .before .before .before .before .before .before .args) .s .now) ((c .before .before .before .before .before .before .args) .display) (length ((c .before .before .before .before .before .before .args) .store .now)) (length ((c .before .before .before .before .before .before .args) .out .now)) ((c .before .before .if1) .left) (sym ((c .before .well-formed) .ensures) ∙ not-true _ ((c .if2) .taken))) in
     g
 
+table-requires : tie.Need-table-requires
+table-requires c κs = search needs
+
 parse-requires : tie.Need-parse-requires
-parse-requires c κs = search needs
+parse-requires c κs = (c .before .before .table) .ensures
 
 enum-known-r : tie.Need-enum-known-r
 enum-known-r c = search needs
@@ -40,13 +44,13 @@ enum-known-first c = search needs
 cast-n : tie.Need-cast-n
 cast-n c =
     let b = rw ((c .before .first) .given .1) at ((c .before .before .before .before .before .parse) .ensures) in
-    let f = few-nodes (length ((c .before .before .before .before .before .before .before .before .before .before .before .before .before .args) .store .now)) b ((c .before .before .before .before .before .before .before .before .before .if1) .left) in
+    let f = few-nodes (length ((c .before .before .before .before .before .before .before .before .before .before .before .before .before .before .before .args) .store .now)) b ((c .before .before .before .before .before .before .before .before .before .before .before .if1) .left) in
     omega arith
 
 put-math-requires : tie.Need-put-math-requires
 put-math-requires c κs =
-    let b = rw ((c .before .before .before .first) .given .1) at ((c .before .before .before .before .before .before .before .parse) .ensures) in
-    able-count (length ((c .before .before .before .before .before .before .before .before .before .before .before .before .before .before .before .args) .store .now)) b ((c .before .before .before .before .before .before .before .before .before .before .before .before .before .before .before .args) .display) ((c .before .before .before .before .before .before .before .before .before .before .before .if1) .left) _
+    let b = rw ((c .before .before .before .before .first) .given .1) at ((c .before .before .before .before .before .before .before .before .parse) .ensures) in
+    (able-count (length ((c .before .before .before .before .before .before .before .before .before .before .before .before .before .before .before .before .before .before .args) .store .now)) b ((c .before .before .before .before .before .before .before .before .before .before .before .before .before .before .before .before .before .before .args) .display) ((c .before .before .before .before .before .before .before .before .before .before .before .before .before .before .if1) .left) _, (c .before .before .before .before .before .before .before .before .before .before .before .table) .ensures)
 
 same-length : tie.Need-same-length
 same-length c = search needs
@@ -56,14 +60,14 @@ same-length-2 c = search needs
 
 returns-3 : tie.Need-returns-3
 returns-3 c =
-    let b = rw ((c .before .before .before .before .before .before .before .first) .given .1) at ((c .before .before .before .before .before .before .before .before .before .before .before .parse) .ensures) in
-    let g = too-large (length ((c .before .before .before .before .before .before .before .before .before .before .before .before .before .before .before .before .before .before .before .args) .store .now)) b ((c .before .before .before .before .before .before .before .before .before .before .before .before .before .before .before .before .before .before .before .args) .display) ((c .before .before .before .before .before .before .before .before .before .before .before .before .before .before .before .if1) .left) ((c .before .before .before .put-math) .ensures) (sym ((c .before .before .before .before .before .before .before .before .before .before .before .before .before .before .well-formed) .ensures) ∙ not-false _ ((c .before .before .before .before .before .before .before .before .before .before .before .before .before .if2) .left)) ((c .if3) .taken) in
+    let b = rw ((c .before .before .before .before .before .before .before .before .first) .given .1) at ((c .before .before .before .before .before .before .before .before .before .before .before .before .parse) .ensures) in
+    let g = too-large (length ((c .before .before .before .before .before .before .before .before .before .before .before .before .before .before .before .before .before .before .before .before .before .before .args) .store .now)) b ((c .before .before .before .before .before .before .before .before .before .before .before .before .before .before .before .before .before .before .before .before .before .before .args) .display) ((c .before .before .before .before .before .before .before .before .before .before .before .before .before .before .before .before .before .before .if1) .left) ((c .before .before .before .put-math) .ensures) (sym ((c .before .before .before .before .before .before .before .before .before .before .before .before .before .before .before .before .before .well-formed) .ensures) ∙ not-false _ ((c .before .before .before .before .before .before .before .before .before .before .before .before .before .before .before .before .if2) .left)) ((c .if3) .taken) in
     g
 
 put-math-requires-2 : tie.Need-put-math-requires-2
 put-math-requires-2 c κs =
-    let b = rw ((c .before .before .before .before .before .before .before .before .before .first) .given .1) at ((c .before .before .before .before .before .before .before .before .before .before .before .before .before .parse) .ensures) in
-    able-write (length ((c .before .before .before .before .before .before .before .before .before .before .before .before .before .before .before .before .before .before .before .before .before .args) .store .now)) b ((c .before .before .before .before .before .before .before .before .before .before .before .before .before .before .before .before .before .before .before .before .before .args) .display) ((c .before .before .before .before .before .before .before .before .before .before .before .before .before .before .before .before .before .if1) .left) ((c .before .before .before .before .before .put-math) .ensures) ((c .before .before .if3) .left)
+    let b = rw ((c .before .before .before .before .before .before .before .before .before .before .before .first) .given .1) at ((c .before .before .before .before .before .before .before .before .before .before .before .before .before .before .before .parse) .ensures) in
+    (able-write (length ((c .before .before .before .before .before .before .before .before .before .before .before .before .before .before .before .before .before .before .before .before .before .before .before .before .before .args) .store .now)) b ((c .before .before .before .before .before .before .before .before .before .before .before .before .before .before .before .before .before .before .before .before .before .before .before .before .before .args) .display) ((c .before .before .before .before .before .before .before .before .before .before .before .before .before .before .before .before .before .before .before .before .before .if1) .left) ((c .before .before .before .before .before .before .put-math) .ensures) ((c .before .before .before .if3) .left), (c .before .before .before .before .before .before .before .before .before .before .before .before .before .before .before .before .before .before .table) .ensures)
 
 same-length-3 : tie.Need-same-length-3
 same-length-3 c = search needs
@@ -71,7 +75,7 @@ same-length-3 c = search needs
 returns-4 : tie.Need-returns-4
 returns-4 c =
     let b = rw ((c .before .r) .given .1) at ((c .before .before .before .before .before .parse) .ensures) in
-    let g = gives-nothing ((c .before .before .before .before .before .before .before .before .before .before .before .before .before .args) .out .now) (body-no ((c .before .before .before .before .before .before .before .before .before .before .before .before .before .args) .s .now) ((c .before .before .before .before .before .before .before .before .before .before .before .before .before .args) .display) (length ((c .before .before .before .before .before .before .before .before .before .before .before .before .before .args) .store .now)) (length ((c .before .before .before .before .before .before .before .before .before .before .before .before .before .args) .out .now)) ((c .before .before .before .before .before .before .before .before .before .if1) .left) (sym ((c .before .before .before .before .before .before .before .before .well-formed) .ensures) ∙ not-false _ ((c .before .before .before .before .before .before .before .if2) .left)) b) in
+    let g = gives-nothing ((c .before .before .before .before .before .before .before .before .before .before .before .before .before .before .before .args) .out .now) (body-no ((c .before .before .before .before .before .before .before .before .before .before .before .before .before .before .before .args) .s .now) ((c .before .before .before .before .before .before .before .before .before .before .before .before .before .before .before .args) .display) (length ((c .before .before .before .before .before .before .before .before .before .before .before .before .before .before .before .args) .store .now)) (length ((c .before .before .before .before .before .before .before .before .before .before .before .before .before .before .before .args) .out .now)) ((c .before .before .before .before .before .before .before .before .before .before .before .if1) .left) (sym ((c .before .before .before .before .before .before .before .before .before .before .well-formed) .ensures) ∙ not-false _ ((c .before .before .before .before .before .before .before .before .before .if2) .left)) b) in
     g
 
 same-length-4 : tie.Need-same-length-4
@@ -82,8 +86,8 @@ same-length-5 c = search needs
 
 returns-5 : tie.Need-returns-5
 returns-5 c =
-    let b = rw ((c .before .before .before .before .before .before .before .before .before .before .before .before .first) .given .1) at ((c .before .before .before .before .before .before .before .before .before .before .before .before .before .before .before .before .parse) .ensures) in
-    let g = written (length ((c .before .before .before .before .before .before .before .before .before .before .before .before .before .before .before .before .before .before .before .before .before .before .before .before .args) .store .now)) b ((c .before .before .before .before .before .before .before .before .before .before .before .before .before .before .before .before .before .before .before .before .before .before .before .before .args) .display) ((c .before .before .before .before .before .before .before .before .before .before .before .before .before .before .before .before .before .before .before .before .if1) .left) ((c .before .before .before .before .before .before .before .before .put-math) .ensures) (sym ((c .before .before .before .before .before .before .before .before .before .before .before .before .before .before .before .before .before .before .before .well-formed) .ensures) ∙ not-false _ ((c .before .before .before .before .before .before .before .before .before .before .before .before .before .before .before .before .before .before .if2) .left)) ((c .before .before .before .before .before .if3) .left) ((c .before .before .put-math2) .ensures) in
+    let b = rw ((c .before .before .before .before .before .before .before .before .before .before .before .before .before .before .first) .given .1) at ((c .before .before .before .before .before .before .before .before .before .before .before .before .before .before .before .before .before .before .parse) .ensures) in
+    let g = written (length ((c .before .before .before .before .before .before .before .before .before .before .before .before .before .before .before .before .before .before .before .before .before .before .before .before .before .before .before .before .args) .store .now)) b ((c .before .before .before .before .before .before .before .before .before .before .before .before .before .before .before .before .before .before .before .before .before .before .before .before .before .before .before .before .args) .display) ((c .before .before .before .before .before .before .before .before .before .before .before .before .before .before .before .before .before .before .before .before .before .before .before .before .if1) .left) ((c .before .before .before .before .before .before .before .before .before .put-math) .ensures) (sym ((c .before .before .before .before .before .before .before .before .before .before .before .before .before .before .before .before .before .before .before .before .before .before .before .well-formed) .ensures) ∙ not-false _ ((c .before .before .before .before .before .before .before .before .before .before .before .before .before .before .before .before .before .before .before .before .before .before .if2) .left)) ((c .before .before .before .before .before .before .if3) .left) ((c .before .before .put-math2) .ensures) in
     g
 
 pub latex-to-mathml-spec : {M : Type 1} → statement M
@@ -93,6 +97,7 @@ latex-to-mathml-spec =
     returns
     well-formed-requires
     returns-2
+    table-requires
     parse-requires
     enum-known-r
     enum-known-first

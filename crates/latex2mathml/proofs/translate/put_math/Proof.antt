@@ -15,11 +15,11 @@ use Rattle.text.proofs.put.put.Reads as put-reads
 
 put-opening-requires : tie.Need-put-opening-requires
 put-opening-requires c κs =
-    between-front (math-shown ((c .before .before .before .before .args) .s .now) ((c .before .before .before .before .args) .display)) ((c .before .before .before .before .pre))
+    between-front (math-shown ((c .before .before .before .before .args) .s .now) ((c .before .before .before .before .args) .display)) ((c .before .before .before .before .pre .0))
 
 print-nodes-requires : tie.Need-print-nodes-requires
 print-nodes-requires c κs =
-    between-inner (math-shown ((c .before .before .before .before .before .before .before .before .args) .s .now) ((c .before .before .before .before .before .before .before .before .args) .display)) ((c .before .before .before .before .before .before .before .before .pre)) ((c .before .before .before .put-opening) .ensures)
+    (between-inner (math-shown ((c .before .before .before .before .before .before .before .before .args) .s .now) ((c .before .before .before .before .before .before .before .before .args) .display)) ((c .before .before .before .before .before .before .before .before .pre .0)) ((c .before .before .before .put-opening) .ensures), c .before .before .before .before .before .before .before .before .pre .1)
 
 slice-aggregate-put : tie.Need-slice-aggregate-put
 slice-aggregate-put c = search needs
@@ -27,7 +27,7 @@ slice-aggregate-put c = search needs
 put-requires : tie.Need-put-requires
 unfolding text-opens
 put-requires c κs =
-    between-back (math-shown ((c .before .before .before .before .before .before .before .before .before .before .before .before .before .args) .s .now) ((c .before .before .before .before .before .before .before .before .before .before .before .before .before .args) .display)) ((c .before .before .before .before .before .before .before .before .before .before .before .before .before .pre)) ((c .before .before .before .before .before .before .before .before .put-opening) .ensures) ((c .before .before .before .before .print-nodes) .ensures)
+    between-back (math-shown ((c .before .before .before .before .before .before .before .before .before .before .before .before .before .args) .s .now) ((c .before .before .before .before .before .before .before .before .before .before .before .before .before .args) .display)) ((c .before .before .before .before .before .before .before .before .before .before .before .before .before .pre .0)) ((c .before .before .before .before .before .before .before .before .put-opening) .ensures) ((c .before .before .before .before .print-nodes) .ensures)
 
 same-length : tie.Need-same-length
 same-length c = search needs

@@ -20,7 +20,7 @@ token-at-requires c κs = search needs
 returns : tie.Need-returns
 returns c =
     let read = (c .token-at) .ensures ∙ next-read ((c .before .before .before .args) .s .now) ((c .before .before .before .args) .self .at) ((c .before .skip-whitespace) .result .at) ((c .before .skip-whitespace) .ensures .0) in
-    (read, rw (ap (λ t. t .end) read) (next-spans ((c .before .before .before .args) .s .now) ((c .before .before .before .args) .self .at) ((c .before .before .before .pre)) .inside))
+    (read, rw (ap (λ t. t .end) read) (next-spans ((c .before .before .before .args) .s .now) ((c .before .before .before .args) .self .at) (c .before .before .before .pre .0) .inside))
 
 pub next-token-spec : {M : Type 1} → statement M
 next-token-spec = tie.close (tie.spec skip-whitespace-requires token-at-requires returns)

@@ -32,7 +32,7 @@ code-point-requires c κs = search needs
 
 add-end : tie.Need-add-end
 add-end c =
-    omega (arith, ap (λ q. q .width) ((c .before .code-point) .ensures), point-inside ((c .before .before .before .args) .s .now) ((c .before .before .before .args) .self .at) ((c .before .before .before .pre)))
+    omega (arith, ap (λ q. q .width) ((c .before .code-point) .ensures), point-inside ((c .before .before .before .args) .s .now) ((c .before .before .before .args) .self .at) (c .before .before .before .pre .0))
 
 new-requires : tie.Need-new-requires
 new-requires c κs = search needs
@@ -108,7 +108,7 @@ assigns-requires c κs = search needs
 
 add-new : tie.Need-add-new
 add-new c =
-    omega (arith, assigns-inside ((c .before .before .before .before .before .before .args) .s .now) ((c .before .before .before .before .before .before .args) .self .at) ((c .before .before .before .before .before .before .pre)) (sym ((c .before .assigns) .ensures) ∙ (c .if1) .taken))
+    omega (arith, assigns-inside ((c .before .before .before .before .before .before .args) .s .now) ((c .before .before .before .before .before .before .args) .self .at) (c .before .before .before .before .before .before .pre .0) (sym ((c .before .assigns) .ensures) ∙ (c .if1) .taken))
 
 new-requires-24 : tie.Need-new-requires-24
 new-requires-24 c κs = search needs
@@ -123,7 +123,8 @@ new-requires-25 c κs = search needs
 
 read-command-requires : tie.Need-read-command-requires
 read-command-requires c κs =
-    head-inside ((c .before .before .before .before .args) .s .now) ((c .before .before .before .before .args) .self .at) (λ e. eqb-false 92 0 refl (sym ((c .match) .keys25) ∙ ap (λ q. q .code) ((c .before .before .code-point) .ensures) ∙ e))
+    let inside = head-inside ((c .before .before .before .before .args) .s .now) ((c .before .before .before .before .args) .self .at) (λ e. eqb-false 92 0 refl (sym ((c .match) .keys25) ∙ ap (λ q. q .code) ((c .before .before .code-point) .ensures) ∙ e)) in
+    (inside, c .before .before .before .before .pre .1)
 
 read-number-requires : tie.Need-read-number-requires
 read-number-requires c κs = search needs

@@ -14,10 +14,10 @@ use Rattle.lexer.proofs.reader.token_from.Reads as token-from-reads
 use Rattle.text.proofs.put.put_code_point.Reads as put-code-point-reads
 
 abbrev Inv-loop : tie.InvT-loop
-Inv-loop t out₀ at write place₀ i₀ out place i = Reading write out₀ out at place t i
+Inv-loop t out₀ at write table place₀ i₀ out place i = Reading write out₀ out at place t i
 
 abbrev μ-loop : tie.MeasureT-loop
-μ-loop t out₀ at write place₀ i₀ out place i = length t - i
+μ-loop t out₀ at write table place₀ i₀ out place i = length t - i
 
 loop-holds : tie.Need-loop-holds Inv-loop μ-loop
 loop-holds c =
@@ -40,7 +40,7 @@ enum-known-token c = search needs
 
 put-code-point-requires : tie.Need-put-code-point-requires Inv-loop μ-loop
 put-code-point-requires c κs =
-    reading-room (c .before .before .before .before .before .before .before .before .before .pre) ((c .before .before .before .before .before .before .loop) .inv) ((c .before .before .before .before .token-from) .result) ((c .before .before .before .before .token-from) .ensures .0) _ _ ((c .before .before .token) .given .1)
+    reading-room (c .before .before .before .before .before .before .before .before .before .pre .0) ((c .before .before .before .before .before .before .loop) .inv) ((c .before .before .before .before .token-from) .result) ((c .before .before .before .before .token-from) .ensures .0) _ _ ((c .before .before .token) .given .1)
 
 add-i : tie.Need-add-i Inv-loop μ-loop
 add-i c = search needs
@@ -52,11 +52,11 @@ loop-less c =
 
 loop-again : tie.Need-loop-again Inv-loop μ-loop
 loop-again c =
-    reading-more (c .before .before .before .before .before .before .before .before .before .before .before .before .before .pre) ((c .before .before .before .before .before .before .before .before .before .before .loop) .inv) ((c .before .before .before .before .before .before .before .before .token-from) .result) ((c .before .before .before .before .before .before .before .before .token-from) .ensures .0) _ _ ((c .before .before .before .before .before .before .token) .given .1) ((c .before .before .before .put-code-point) .ensures)
+    reading-more (c .before .before .before .before .before .before .before .before .before .before .before .before .before .pre .0) ((c .before .before .before .before .before .before .before .before .before .before .loop) .inv) ((c .before .before .before .before .before .before .before .before .token-from) .result) ((c .before .before .before .before .before .before .before .before .token-from) .ensures .0) _ _ ((c .before .before .before .before .before .before .token) .given .1) ((c .before .before .before .put-code-point) .ensures)
 
 same-length : tie.Need-same-length Inv-loop μ-loop
 same-length c =
-    putting-length (c .before .before .before .before .before .before .pre) ((c .before .before .before .loop) .inv .putting)
+    putting-length (c .before .before .before .before .before .before .pre .0) ((c .before .before .before .loop) .inv .putting)
 
 returns : tie.Need-returns Inv-loop μ-loop
 returns c =

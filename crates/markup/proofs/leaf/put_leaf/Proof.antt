@@ -84,7 +84,7 @@ unfolding text-opens printLeaf parseError slashLeaf cellLeaf
 put-letters-in-requires c κs =
     let e = anywhere ((c .before .before .before .before .before .before .before .before .before .before .before .before .args) .place) (printLeaf ((c .before .before .before .before .before .before .before .before .before .before .before .before .args) .s .now) ((c .before .before .before .before .before .before .before .before .before .before .before .before .args) .l)) ((c .before .before .before .before .before .before .before .before .l5) .given .1) refl refl in
     let p = rw ((c .before .before .before .before .before .before .before .before .l5) .given .1) at ((c .before .before .before .before .before .before .before .before .before .before .before .before .pre) .0) in
-    (p .0, p .1, rw ((c .before .before .before .before .before .before .before .before .l5) .given .1) at (room-as e ((c .before .before .before .before .before .before .before .before .before .before .before .before .pre) .1)))
+    (p .0, p .1, rw ((c .before .before .before .before .before .before .before .before .l5) .given .1) at (room-as e ((c .before .before .before .before .before .before .before .before .before .before .before .before .pre) .1)), (c .before .before .before .before .before .before .before .before .before .before .before .before .pre) .2)
 
 enum-known-l-6 : tie.Need-enum-known-l-6
 enum-known-l-6 c = search needs
@@ -148,7 +148,7 @@ unfolding text-opens printLeaf parseError slashLeaf cellLeaf
 put-letters-in-requires-2 c κs =
     let e = anywhere ((c .before .before .before .before .before .before .before .before .before .before .before .before .args) .place) (printLeaf ((c .before .before .before .before .before .before .before .before .before .before .before .before .args) .s .now) ((c .before .before .before .before .before .before .before .before .before .before .before .before .args) .l)) ((c .before .before .before .before .before .before .before .before .l10) .given .1) refl refl in
     let p = rw ((c .before .before .before .before .before .before .before .before .l10) .given .1) at ((c .before .before .before .before .before .before .before .before .before .before .before .before .pre) .0) in
-    (p .0, p .1, rw ((c .before .before .before .before .before .before .before .before .l10) .given .1) at (room-as e ((c .before .before .before .before .before .before .before .before .before .before .before .before .pre) .1)))
+    (p .0, p .1, rw ((c .before .before .before .before .before .before .before .before .l10) .given .1) at (room-as e ((c .before .before .before .before .before .before .before .before .before .before .before .before .pre) .1)), (c .before .before .before .before .before .before .before .before .before .before .before .before .pre) .2)
 
 enum-told : tie.Need-enum-told
 enum-told c = search needs

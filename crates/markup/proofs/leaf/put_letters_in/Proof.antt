@@ -27,7 +27,7 @@ part-put-letters-end c = search needs
 put-letters-requires : tie.Need-put-letters-requires
 unfolding letterText
 put-letters-requires c κs =
-    room-2 ((c .before .before .before .before .before .before .before .before .before .before .args) .front .now) (letterText ((c .before .before .before .before .before .before .before .before .before .before .args) .s .now) ((c .before .before .before .before .before .before .before .before .before .before .args) .a) ((c .before .before .before .before .before .before .before .before .before .before .args) .e)) ((c .before .before .before .before .before .before .before .before .before .before .args) .back .now) ((c .before .before .before .before .before .before .before .before .before .before .pre) .2) ((c .before .before .before .before .put) .ensures)
+    (room-2 ((c .before .before .before .before .before .before .before .before .before .before .args) .front .now) (letterText ((c .before .before .before .before .before .before .before .before .before .before .args) .s .now) ((c .before .before .before .before .before .before .before .before .before .before .args) .a) ((c .before .before .before .before .before .before .before .before .before .before .args) .e)) ((c .before .before .before .before .before .before .before .before .before .before .args) .back .now) ((c .before .before .before .before .before .before .before .before .before .before .pre) .2) ((c .before .before .before .before .put) .ensures), (c .before .before .before .before .before .before .before .before .before .before .pre) .3)
 
 put-requires-2 : tie.Need-put-requires-2
 unfolding letterText

@@ -12,7 +12,7 @@ use Rattle.latex2mathml.proofs.replace.lay_replacement.Reads as lay-replacement
 
 lay-replacement-requires : tie.Need-lay-replacement-requires
 lay-replacement-requires c κs =
-    (c .before .before .before .before .before .before .before .before .pre) .1
+    (c .before .before .before .before .before .before .before .before .pre .1, c .before .before .before .before .before .before .before .before .pre .2)
 
 enum-known-end : tie.Need-enum-known-end
 enum-known-end c = search needs

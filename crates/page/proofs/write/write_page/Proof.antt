@@ -17,11 +17,11 @@ use Rattle.page.proofs.write.write_paragraph.Reads as write-paragraph-r
 use Rattle.text.proofs.put.put.Reads as put-reads
 
 abbrev Inv-loop : tie.InvT-loop
-Inv-loop document store₀ work₀ out₀ left from₀ at₀ k₀ store work out from at k =
+Inv-loop document store₀ work₀ out₀ left table from₀ at₀ k₀ store work out from at k =
     (length store ≡ length store₀) × (length work ≡ length work₀) × (length out ≡ length out₀) × Writing document left (length store₀) (length work₀) out₀ out from at k
 
 abbrev μ-loop : tie.MeasureT-loop
-μ-loop document store₀ work₀ out₀ left from₀ at₀ k₀ store work out from at k =
+μ-loop document store₀ work₀ out₀ left table from₀ at₀ k₀ store work out from at k =
     length document - from
 
 loop-holds : tie.Need-loop-holds Inv-loop μ-loop
@@ -50,7 +50,7 @@ write-paragraph-requires : tie.Need-write-paragraph-requires Inv-loop μ-loop
 write-paragraph-requires c κs =
     let i = (c .before .before .before .before .before .before .loop) .inv in
     let b = (c .before .before .before .before .before .next-break) .ensures in
-    rw (i .0, i .1) (writing-mark ((c .before .before .before .before .before .before .before .before .before .before .before .before .pre) .1) (i .3) ((c .before .before .before .before .before .next-break) .result) (b .0) (b .2) .1, writing-room ((c .before .before .before .before .before .before .before .before .before .before .before .before .pre) .1) (i .3) ((c .before .before .before .before .before .next-break) .result) (b .0) (b .2))
+    rw (i .0, i .1) (writing-mark ((c .before .before .before .before .before .before .before .before .before .before .before .before .pre) .1) (i .3) ((c .before .before .before .before .before .next-break) .result) (b .0) (b .2) .1, writing-room ((c .before .before .before .before .before .before .before .before .before .before .before .before .pre) .1) (i .3) ((c .before .before .before .before .before .next-break) .result) (b .0) (b .2), c .before .before .before .before .before .before .before .before .before .before .before .before .pre .2)
 
 same-length : tie.Need-same-length Inv-loop μ-loop
 same-length c = search needs

@@ -15,7 +15,7 @@ use Rattle.text.proofs.put.put.Reads as put-reads
 write-replacement-requires : tie.Need-write-replacement-requires
 write-replacement-requires c κs =
     let a = (c .before .before .before .before .before .before .before .before .args) in
-    fits-replaced (a .p .now) (length (a .store .now)) (length (a .work .now)) (a .out .now) (a .at) (sym ((c .before .before .before .before .before .before .before .before .pre) .0) ∙ (c .before .before .before .if1) .taken) ((c .before .before .before .before .before .before .before .before .pre) .1)
+    (fits-replaced (a .p .now) (length (a .store .now)) (length (a .work .now)) (a .out .now) (a .at) (sym ((c .before .before .before .before .before .before .before .before .pre) .0) ∙ (c .before .before .before .if1) .taken) ((c .before .before .before .before .before .before .before .before .pre) .1), c .before .before .before .before .before .before .before .before .pre .2)
 
 same-length : tie.Need-same-length
 same-length c = search needs

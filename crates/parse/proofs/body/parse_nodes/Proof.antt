@@ -19,18 +19,18 @@ use Rattle.parser.proofs.Parser.new.Reads as new-reads
 use Rattle.parser.proofs.Parser.next_token.Reads as next-token-reads
 
 abbrev Inv-loop : tie.InvT-loop
-Inv-loop s store₀ depth q₀ first₀ last₀ count₀ store q first last count =
-    (length store ≡ length store₀) × BodyLoop depth s store₀ store q first last count
+Inv-loop s store₀ depth table q₀ first₀ last₀ count₀ store q first last count =
+    (length store ≡ length store₀) × BodyLoop depth table s store₀ store q first last count
 
 abbrev μ-loop : tie.MeasureT-loop
-μ-loop s store₀ depth q₀ first₀ last₀ count₀ store q first last count = length s - q .cur .start
+μ-loop s store₀ depth table q₀ first₀ last₀ count₀ store q first last count = length s - q .cur .start
 
 new-requires : tie.Need-new-requires Inv-loop μ-loop
 new-requires c κs = search needs
 
 loop-holds : tie.Need-loop-holds Inv-loop μ-loop
 loop-holds c =
-    (refl, body-none ((c .before .before .before .args) .depth) ((c .before .before .before .args) .s .now) ((c .before .before .before .args) .store .now) _ ((c .before .before .before .pre) .0) ((c .before .before .before .pre) .1) ((c .new) .ensures))
+    (refl, body-none ((c .before .before .before .args) .depth) ((c .before .before .before .args) .table .now) ((c .before .before .before .args) .s .now) ((c .before .before .before .args) .store .now) _ ((c .before .before .before .pre) .2) ((c .before .before .before .pre) .0) ((c .before .before .before .pre) .1) ((c .new) .ensures))
 
 cur-token-is-requires : tie.Need-cur-token-is-requires Inv-loop μ-loop
 cur-token-is-requires c κs = search needs
@@ -76,7 +76,8 @@ add-count c =
 next-token-requires : tie.Need-next-token-requires Inv-loop μ-loop
 next-token-requires c κs =
     let g = rw ((c .before .before .before .before .before .i) .given .1) at ((c .before .before .before .before .before .before .before .before .before .parse-node) .ensures) in
-    (more-ends ((c .before .before .before .before .before .before .before .before .before .before .before .before .before .loop) .inv .1) (node-keeps ((c .before .before .before .before .before .before .before .before .before .before .before .before .before .before .before .before .before .args) .depth) ((c .before .before .before .before .before .before .before .before .before .before .before .before .before .before .before .before .before .args) .s .now)) (sym ((c .before .before .before .before .before .before .before .before .before .before .before .before .cur-token-is) .ensures) ∙ (c .before .before .before .before .before .before .before .before .before .before .before .if1) .left) ((c .before .before .before .before .before .before .before .before .before .parse-node) .kept .1 .0) g) .sound .peek .inside
+    let n = (more-ends ((c .before .before .before .before .before .before .before .before .before .before .before .before .before .loop) .inv .1) (node-keeps ((c .before .before .before .before .before .before .before .before .before .before .before .before .before .before .before .before .before .args) .depth) ((c .before .before .before .before .before .before .before .before .before .before .before .before .before .before .before .before .before .args) .s .now)) (sym ((c .before .before .before .before .before .before .before .before .before .before .before .before .cur-token-is) .ensures) ∙ (c .before .before .before .before .before .before .before .before .before .before .before .if1) .left) ((c .before .before .before .before .before .before .before .before .before .parse-node) .kept .1 .0) g) in
+    (n .sound .peek .inside, n .table)
 
 loop-less : tie.Need-loop-less Inv-loop μ-loop
 loop-less c =

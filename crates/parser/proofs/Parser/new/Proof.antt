@@ -15,7 +15,7 @@ next-token-requires c κs = search needs
 
 next-token-requires-2 : tie.Need-next-token-requires-2
 next-token-requires-2 c κs =
-    rw ((c .next-token) .ensures) (next-inside ((c .before .before .args) .s .now) _ (omega arith))
+    (rw ((c .next-token) .ensures) (next-inside ((c .before .before .args) .s .now) _ (omega arith)), c .before .before .pre)
 
 returns : tie.Need-returns
 unfolding new

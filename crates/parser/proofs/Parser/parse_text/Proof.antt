@@ -17,17 +17,17 @@ enum-told : tie.Need-enum-told
 enum-told c = search needs
 
 past-letters-requires : tie.Need-past-letters-requires
-past-letters-requires c κs = (c .before .before .before .before .pre) .peek .inside
+past-letters-requires c κs = let pre = c .before .before .before .before .pre in (pre .0 .peek .inside, pre .1)
 
 following-requires : tie.Need-following-requires
-following-requires c κs = (c .past-letters) .ensures .1
+following-requires c κs = ((c .past-letters) .ensures .1, c .before .before .before .before .before .pre .1)
 
 next-token-requires : tie.Need-next-token-requires
-next-token-requires c κs = (c .before .before .before .pre) .peek .inside
+next-token-requires c κs = let pre = c .before .before .before .pre in (pre .0 .peek .inside, pre .1)
 
 returns : tie.Need-returns
 returns c =
-    rw ((c .following) .ensures) (sym (text-some ((c .before .before .before .before .before .before .args) .s .now) ((c .before .before .before .before .before .before .args) .self) (c .before .before .before .before .before .before .pre) _ _ ((c .before .before .enum-told) .given .1) ((c .before .past-letters) .result) ((c .before .past-letters) .ensures .0)))
+    rw ((c .following) .ensures) (sym (text-some ((c .before .before .before .before .before .before .args) .s .now) ((c .before .before .before .before .before .before .args) .self) (c .before .before .before .before .before .before .pre .0) _ _ ((c .before .before .enum-told) .given .1) ((c .before .past-letters) .result) ((c .before .past-letters) .ensures .0)))
 
 returns-2 : tie.Need-returns-2
 returns-2 c =

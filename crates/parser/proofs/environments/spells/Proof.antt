@@ -20,10 +20,10 @@ use Rattle.lexer.proofs.reader.token_from.Reads as token-from-reads
 use Rattle.lexer.proofs.is_alphabetic.Reads as is-alphabetic-reads
 
 abbrev Inv-loop : tie.InvT-loop
-Inv-loop t name i₀ k₀ i k = Comparing t name i k
+Inv-loop t name table i₀ k₀ i k = Comparing t name i k
 
 abbrev μ-loop : tie.MeasureT-loop
-μ-loop t name i₀ k₀ i k = length t - i
+μ-loop t name table i₀ k₀ i k = length t - i
 
 loop-holds : tie.Need-loop-holds Inv-loop μ-loop
 loop-holds c =

@@ -14,96 +14,60 @@ use Rattle.token.proofs.texts.put_width.Reads as reads
 use Rattle.token.proofs.texts.put_width.Lts as lts
 use Rattle.text.proofs.put.put.Reads as put-reads
 
-slice-aggregate-put : tie.Need-slice-aggregate-put
-slice-aggregate-put c = search needs
-
 put-requires : tie.Need-put-requires
 unfolding text-opens widthOf printedWidths
 put-requires c κs =
     rw ((c .before .before .before .before .match) .keys1) at ((c .before .before .before .before .before .before .pre))
-
-slice-aggregate-put-2 : tie.Need-slice-aggregate-put-2
-slice-aggregate-put-2 c = search needs
 
 put-requires-2 : tie.Need-put-requires-2
 unfolding text-opens widthOf printedWidths
 put-requires-2 c κs =
     rw ((c .before .before .before .before .match) .keys2) at ((c .before .before .before .before .before .before .pre))
 
-slice-aggregate-put-3 : tie.Need-slice-aggregate-put-3
-slice-aggregate-put-3 c = search needs
-
 put-requires-3 : tie.Need-put-requires-3
 unfolding text-opens widthOf printedWidths
 put-requires-3 c κs =
     rw ((c .before .before .before .before .match) .keys3) at ((c .before .before .before .before .before .before .pre))
-
-slice-aggregate-put-4 : tie.Need-slice-aggregate-put-4
-slice-aggregate-put-4 c = search needs
 
 put-requires-4 : tie.Need-put-requires-4
 unfolding text-opens widthOf printedWidths
 put-requires-4 c κs =
     rw ((c .before .before .before .before .match) .keys4) at ((c .before .before .before .before .before .before .pre))
 
-slice-aggregate-put-5 : tie.Need-slice-aggregate-put-5
-slice-aggregate-put-5 c = search needs
-
 put-requires-5 : tie.Need-put-requires-5
 unfolding text-opens widthOf printedWidths
 put-requires-5 c κs =
     rw ((c .before .before .before .before .match) .keys5) at ((c .before .before .before .before .before .before .pre))
-
-slice-aggregate-put-6 : tie.Need-slice-aggregate-put-6
-slice-aggregate-put-6 c = search needs
 
 put-requires-6 : tie.Need-put-requires-6
 unfolding text-opens widthOf printedWidths
 put-requires-6 c κs =
     rw ((c .before .before .before .before .match) .keys6) at ((c .before .before .before .before .before .before .pre))
 
-same-length : tie.Need-same-length
-same-length c = search needs
-
 returns : tie.Need-returns
 unfolding text-opens widthOf printedWidths
 returns c =
     rw ((c .before .before .before .before .before .before .before .match) .keys1) ((c .before .before .put) .ensures)
-
-same-length-2 : tie.Need-same-length-2
-same-length-2 c = search needs
 
 returns-2 : tie.Need-returns-2
 unfolding text-opens widthOf printedWidths
 returns-2 c =
     rw ((c .before .before .before .before .before .before .before .match) .keys2) ((c .before .before .put2) .ensures)
 
-same-length-3 : tie.Need-same-length-3
-same-length-3 c = search needs
-
 returns-3 : tie.Need-returns-3
 unfolding text-opens widthOf printedWidths
 returns-3 c =
     rw ((c .before .before .before .before .before .before .before .match) .keys3) ((c .before .before .put3) .ensures)
-
-same-length-4 : tie.Need-same-length-4
-same-length-4 c = search needs
 
 returns-4 : tie.Need-returns-4
 unfolding text-opens widthOf printedWidths
 returns-4 c =
     rw ((c .before .before .before .before .before .before .before .match) .keys4) ((c .before .before .put4) .ensures)
 
-same-length-5 : tie.Need-same-length-5
-same-length-5 c = search needs
-
 returns-5 : tie.Need-returns-5
 unfolding text-opens widthOf printedWidths
 returns-5 c =
     rw ((c .before .before .before .before .before .before .before .match) .keys5) ((c .before .before .put5) .ensures)
-
-same-length-6 : tie.Need-same-length-6
-same-length-6 c = search needs
 
 returns-6 : tie.Need-returns-6
 unfolding text-opens widthOf printedWidths
@@ -119,28 +83,28 @@ pub put-width-spec : {M : Type 1} → statement M
 put-width-spec =
     tie.close
     (tie.spec
-    slice-aggregate-put
+    (λ c. search needs)
     put-requires
-    slice-aggregate-put-2
+    (λ c. search needs)
     put-requires-2
-    slice-aggregate-put-3
+    (λ c. search needs)
     put-requires-3
-    slice-aggregate-put-4
+    (λ c. search needs)
     put-requires-4
-    slice-aggregate-put-5
+    (λ c. search needs)
     put-requires-5
-    slice-aggregate-put-6
+    (λ c. search needs)
     put-requires-6
-    same-length
+    (λ c. search needs)
     returns
-    same-length-2
+    (λ c. search needs)
     returns-2
-    same-length-3
+    (λ c. search needs)
     returns-3
-    same-length-4
+    (λ c. search needs)
     returns-4
-    same-length-5
+    (λ c. search needs)
     returns-5
-    same-length-6
+    (λ c. search needs)
     returns-6
     returns-7)
