@@ -1,5 +1,5 @@
 //! The three operations of document 01 for a host program: body translation, replacement and page, over buffers that the
-//! caller lends. They take about 1 MB of stack at most (decision 49).
+//! caller lends. They take about 1 MB of stack at most (decision 52).
 
 pub mod ffi;
 pub mod formula;

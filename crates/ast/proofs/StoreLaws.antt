@@ -41,17 +41,21 @@ alike l l′ o o′ h =
     let first : getD l′ o′ 0 ≡ getD l o 0 = simp add-zero at (h 0 refl) in
     simp (add-assoc, h, first)
 
--- a write inside the 24 bytes of the record at i leaves every other record as it was
-others : (vs l : List ℕ) (i j k : ℕ) → k + length vs ≤ 24 → (j ≡ i → ⊥) → recordAt (wrote l (i * 24) k vs) j ≡ recordAt l j
+-- a write inside the first 18 bytes of the record at i leaves every other record as it was
+others : (vs l : List ℕ) (i j k : ℕ) → k + length vs ≤ 18 → (j ≡ i → ⊥) → recordAt (wrote l (i * 24) k vs) j ≡ recordAt l j
 unfolding recordAt
 others vs l i j k h n =
     alike l (wrote l (i * 24) k vs) (j * 24) (j * 24)
     (λ m e. outside vs l (i * 24) k (j * 24 + m) (λ p q. n (omega (arith, ltb-true m 18 e))))
 
 -- so such a write puts what is then read at i
-puts : (vs l : List ℕ) (i k : ℕ) {r : Record} → k + length vs ≤ 24 → recordOf (wrote l (i * 24) k vs) (i * 24) ≡ r → Put l (wrote l (i * 24) k vs) i r
+puts : (vs l : List ℕ) (i k : ℕ) {r : Record} → k + length vs ≤ 18 → recordOf (wrote l (i * 24) k vs) (i * 24) ≡ r → Put l (wrote l (i * 24) k vs) i r
 unfolding recordAt
-puts vs l i k h e = record { same = e; other = λ j n. others vs l i j k h n }
+puts vs l i k h e = record {
+  same = e;
+  rest = λ p n. outside vs l (i * 24) k p (λ a b. n (omega arith) (omega arith));
+  other = λ j n. others vs l i j k h n;
+}
 
 -- a place of the same record before the run, and one behind it
 before-run : (vs l : List ℕ) (o k m : ℕ) → ltb m k ≡ true → getD (wrote l o k vs) (o + m) 0 ≡ getD l (o + m) 0

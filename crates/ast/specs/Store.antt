@@ -2,7 +2,7 @@
 -- Assumes nothing.
 use mathlib.Core.Path.{_≡_}
 use mathlib.Core.List.{List}
-use Prim.Native.Nat.{ℕ, _+_, _*_, _^_, _<_}
+use Prim.Native.Nat.{ℕ, _+_, _*_, _^_, _≤_, _<_}
 use lib.ListN.{getD}
 use Rattle.ast.specs.declared.Record.{Record}
 
@@ -37,7 +37,8 @@ pub record Small (r : Record) : Type 0 where
   pub c : r .c < 65536
   pub next : r .next < 65536
 
--- st′ is st with r at the index i
+-- st′ is st with r at the index i: of the record's 24 bytes 18 are r's, and every other byte of the store is as it was, so every other record is
 pub record Put (st st′ : List ℕ) (i : ℕ) (r : Record) : Type 0 where
   pub same : recordAt st′ i ≡ r
+  pub rest : (p : ℕ) → (i * 24 ≤ p → p < i * 24 + 18 → ⊥) → getD st′ p 0 ≡ getD st p 0
   pub other : (j : ℕ) → (j ≡ i → ⊥) → recordAt st′ j ≡ recordAt st j

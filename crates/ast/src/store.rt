@@ -98,7 +98,7 @@ pub fn put_record(store: &mut [u8], i: usize, r: Record)
 }
 
 // Changes the next of the record at an index.
-pub fn set_next(store: &mut [u8], i: usize, next: usize)
+pub(crate) fn set_next(store: &mut [u8], i: usize, next: usize)
     requires { ⌜ (i * 24 + 24 ≤ length (now store)) × (next < 65536) ⌝ }
     ensures { λ _. ⌜ Put (now (store .entry)) (now (store .exit)) i (withNext (recordAt (now (store .entry)) i) next) ⌝ }
 {
@@ -108,7 +108,7 @@ pub fn set_next(store: &mut [u8], i: usize, next: usize)
 }
 
 // Changes the attribute of the record at an index.
-pub fn set_attr(store: &mut [u8], i: usize, attr: u8)
+pub(crate) fn set_attr(store: &mut [u8], i: usize, attr: u8)
     requires { ⌜ i * 24 + 24 ≤ length (now store) ⌝ }
     ensures { λ _. ⌜ Put (now (store .entry)) (now (store .exit)) i (withAttr (recordAt (now (store .entry)) i) attr) ⌝ }
 {

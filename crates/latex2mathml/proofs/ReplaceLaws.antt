@@ -19,7 +19,7 @@ use Rattle.error.specs.declared.Refusal.{Refusal}
 use Rattle.latex2mathml.specs.declared.Answer.{Answer}
 use Rattle.latex2mathml.specs.Outcome.{Outcome, accepted, refused, _>>=_, refuse, bytesOf, documentLimit}
 use Rattle.latex2mathml.specs.Replace.{dollar, twoDollars, threeDollars, places, odd, substitute, firstPass, secondPass, replacement, replaceOutcome, replace}
-use Rattle.latex2mathml.specs.Written.{answerOf, over, Gives, Replaces}
+use Rattle.latex2mathml.specs.Written.{over, Gives, Replaces}
 use Rattle.latex2mathml.specs.Laid.{Laid, LaidThere, Lays, Fits, WrittenThere, Begins, inRoom, passed, growth, Passable, AtMost}
 use Rattle.latex2mathml.proofs.OutcomeLaws.{steps, not-refused}
 use Rattle.latex2mathml.proofs.TranslateLaws.{gives-nothing, gives-markup}

@@ -28,10 +28,10 @@ use Rattle.parser.proofs.BodyLaws.{parse-kept}
 use Rattle.parse.specs.Body.{parseBody, StoresBody}
 use Rattle.print.specs.Shown.{NodesAt, Printable, Prints}
 use Rattle.latex2mathml.specs.declared.Answer.{Answer}
-use Rattle.latex2mathml.specs.Outcome.{Outcome, accepted, refused, _>>=_, refuse, bodyLimit, depthLimit, recordSize, bytesOf}
+use Rattle.latex2mathml.specs.Outcome.{Outcome, accepted, refused, _>>=_, refuse, bodyLimit, depthLimit, recordSize, numberOf, bytesOf}
 use Rattle.latex2mathml.specs.Translate.{convertContent, inMath, latexToMathml, storeTooSmall, translate}
 use Rattle.latex2mathml.specs.Replace.{translateBody}
-use Rattle.latex2mathml.specs.Written.{answerOf, over, Gives}
+use Rattle.latex2mathml.specs.Written.{answerNumber, answerLength, over, Gives}
 use Rattle.latex2mathml.specs.Laid.{growth}
 
 module _ (s : List ℕ) (display : DisplayStyle) (store room : ℕ) where
@@ -117,15 +117,15 @@ module _ (s : List ℕ) (display : DisplayStyle) (store : ℕ) where
 
 -- a refusal leaves the output as it was
 pub gives-nothing : {want : Outcome (List ℕ)} {r : Refusal} (o : List ℕ) → want ≡ refused r → Gives want (Answer.Refused r) o o
-unfolding answerOf over bytesOf
-gives-nothing o e = rw e (record { answer = refl; output = refl })
+unfolding answerNumber answerLength numberOf over bytesOf
+gives-nothing o e = rw e (record { number = refl; size = refl; output = refl })
 
 -- what is accepted stands at the front of the output
 pub gives-markup : {want : Outcome (List ℕ)} {m o o′ : List ℕ} {n r : ℕ} → want ≡ accepted m → n ≡ 0 + length m → Puts true o o′ 0 m r → Gives want (Answer.Accepted n) o o′
-unfolding answerOf over bytesOf
+unfolding answerNumber answerLength numberOf over bytesOf
 gives-markup {want} {m} {o} {o′} {n} e long p =
     let l : n ≡ length m = omega arith in
-    rw e (record { answer = ap (λ x. Answer.Accepted x) l; output = puts-all p })
+    rw e (record { number = refl; size = l; output = puts-all p })
 
 -- the opening and the closing of the wrapper are short
 style-short : (display : DisplayStyle) → length (bytes (displayStyle display)) ≤ 6

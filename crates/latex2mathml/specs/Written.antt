@@ -1,4 +1,4 @@
--- What the operations promise: their answers, and what each buffer holds afterwards. Free is what the lent store holds.
+-- What the operations promise: what their answers say, and what each lent buffer holds afterwards.
 -- Assumes nothing.
 use mathlib.Core.Path.{_≡_}
 use mathlib.Core.List.{List, _++_}
@@ -7,8 +7,9 @@ use lib.ListN.{length, drop}
 use Rattle.text.specs.Text.{bytes}
 use Rattle.attribute.specs.declared.DisplayStyle.{DisplayStyle}
 use Rattle.attribute.specs.Names.{displayStyle}
+use Rattle.error.specs.Numbers.{number}
 use Rattle.latex2mathml.specs.declared.Answer.{Answer}
-use Rattle.latex2mathml.specs.Outcome.{Outcome, accepted, refused, bytesOf}
+use Rattle.latex2mathml.specs.Outcome.{Outcome, numberOf, bytesOf}
 use Rattle.latex2mathml.specs.Translate.{translate}
 use Rattle.latex2mathml.specs.Replace.{replace}
 
@@ -16,18 +17,27 @@ use Rattle.latex2mathml.specs.Replace.{replace}
 unfoldable pub opening : DisplayStyle → List ℕ
 opening display = bytes "<math xmlns=\"http://www.w3.org/1998/Math/MathML\" display=\"" ++ bytes (displayStyle display) ++ bytes "\">"
 
--- what an operation answers: the length of what it writes, or why it writes nothing
-unfoldable pub answerOf : Outcome (List ℕ) → Answer
-answerOf (accepted l) = Answer.Accepted (length l)
-answerOf (refused r) = Answer.Refused r
+-- what an answer says: document 01's number, and the length of what was written
+unfoldable pub answerNumber : Answer → ℕ
+answerNumber (Answer.Accepted n) = 0
+answerNumber (Answer.Refused r) = number r
+
+unfoldable pub answerLength : Answer → ℕ
+answerLength (Answer.Accepted n) = n
+answerLength (Answer.Refused r) = 0
 
 -- the buffer o with the bytes l at its front
 unfoldable pub over : List ℕ → List ℕ → List ℕ
 over l o = l ++ drop (length l) o
 
+-- a lent buffer is free: it holds any bytes afterwards, as many as before
+abbrev pub Free : List ℕ → List ℕ → Type 0
+Free b b′ = length b′ ≡ length b
+
 -- an operation that gives `want` answers r, and the output that was o is o′
 pub record Gives (want : Outcome (List ℕ)) (r : Answer) (o o′ : List ℕ) : Type 0 where
-  pub answer : r ≡ answerOf want
+  pub number : answerNumber r ≡ numberOf want
+  pub size : answerLength r ≡ length (bytesOf want)
   pub output : o′ ≡ over (bytesOf want) o
 
 -- the body translation, with a store of `store` bytes

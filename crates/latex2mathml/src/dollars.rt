@@ -7,7 +7,7 @@ ghost use Rattle.latex2mathml.specs.Replace.{dollar, twoDollars, threeDo
 ghost use Rattle.latex2mathml.specs.Dollars.{mark, nextPlace};
 
 // The place of the first dollar from a place on, or the length.
-pub fn next_dollar(s: &[u8], from: usize) -> usize
+fn next_dollar(s: &[u8], from: usize) -> usize
     requires { ⌜ from ≤ length (now s) ⌝ }
     ensures { λ r. ⌜ (r ≡ nextPlace dollar from (drop from (now (s .entry)))) × (from ≤ r) × (r ≤ length (now (s .entry))) ⌝ }
 {
@@ -38,7 +38,7 @@ fn has_dollar(s: &[u8]) -> bool
 
 // The place of the first two dollars side by side from a place on, or the length. Where the second of two bytes is none, neither of
 // them begins two.
-pub fn next_window(s: &[u8], from: usize) -> usize
+fn next_window(s: &[u8], from: usize) -> usize
     requires { ⌜ from ≤ length (now s) ⌝ }
     ensures { λ r. ⌜ (r ≡ nextPlace twoDollars from (drop from (now (s .entry)))) × (from ≤ r) × (r ≤ length (now (s .entry))) ⌝ }
 {
@@ -57,7 +57,7 @@ pub fn next_window(s: &[u8], from: usize) -> usize
 }
 
 // The place of the next mark, which is one dollar or two.
-pub fn next_mark(s: &[u8], from: usize, double: bool) -> usize
+pub(crate) fn next_mark(s: &[u8], from: usize, double: bool) -> usize
     requires { ⌜ from ≤ length (now s) ⌝ }
     ensures { λ r. ⌜ (r ≡ nextPlace (mark double) from (drop from (now (s .entry)))) × (from ≤ r) × (r ≤ length (now (s .entry))) ⌝ }
 {
@@ -68,7 +68,7 @@ pub fn next_mark(s: &[u8], from: usize, double: bool) -> usize
 }
 
 // The place of the first mark, or the length; a text without dollars has none.
-pub fn first_mark(s: &[u8], double: bool) -> usize
+pub(crate) fn first_mark(s: &[u8], double: bool) -> usize
     ensures { λ r. ⌜ r ≡ nextPlace (mark double) 0 (now (s .entry)) ⌝ }
 {
     if has_dollar(s) {
@@ -104,12 +104,12 @@ fn odd_windows(s: &[u8]) -> bool
             return is_odd;
         }
         is_odd = !is_odd;
-        i += 1;
+        i += 1; // windows may overlap
     }
 }
 
 // Whether the number of marks is odd.
-pub fn odd_marks(s: &[u8], double: bool) -> bool
+pub(crate) fn odd_marks(s: &[u8], double: bool) -> bool
     ensures { λ r. ⌜ r ≡ odd (places (mark double) 0 (now (s .entry))) ⌝ }
 {
     if double {
@@ -119,7 +119,7 @@ pub fn odd_marks(s: &[u8], double: bool) -> bool
 }
 
 // Whether three dollars stand in a row.
-pub fn three_dollars(s: &[u8]) -> bool
+pub(crate) fn three_dollars(s: &[u8]) -> bool
     ensures { λ r. ⌜ r ≡ ltb 0 (length (places threeDollars 0 (now (s .entry)))) ⌝ }
 {
     let mut i = 0;

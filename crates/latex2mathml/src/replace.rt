@@ -20,7 +20,7 @@ ghost use lib.ListN.{length};
 ghost use Rattle.token.specs.Key.{rows};
 ghost use Rattle.latex2mathml.specs.Replace.{translateBody, firstPass, secondPass, replacement};
 ghost use Rattle.latex2mathml.specs.Dollars.{width};
-ghost use Rattle.latex2mathml.specs.Written.{Gives, Replaces};
+ghost use Rattle.latex2mathml.specs.Written.{Free, Gives, Replaces};
 ghost use Rattle.latex2mathml.specs.Laid.{Laid, Lays, RoomFor, Fits, WrittenThere, Begins, inRoom, passed, growth, Passable, AtMost};
 
 // Lays a piece at a place, or counts it where it does not fit; the answer is the place behind it.
@@ -257,7 +257,7 @@ fn replace_in(
     out: &mut [u8],
     draft: &mut [u8],
 ) -> Answer
-    ensures { λ r. ⌜ Replaces (now (document .entry)) (length (now (store .entry))) r (now (work .entry)) (now (work .exit)) (now (out .entry)) (now (out .exit)) ⌝ }
+    ensures { λ r. ⌜ Replaces (now (document .entry)) (length (now (store .entry))) r (now (work .entry)) (now (work .exit)) (now (out .entry)) (now (out .exit)) × Free (now (store .entry)) (now (store .exit)) ⌝ }
 {
     let commands = table();
     match first_pass(document, store, work.len(), draft, &commands) {
@@ -280,7 +280,7 @@ fn replace_in(
 
 // The replacement in a short document, whose drafts take less space to clear.
 fn replace_short(document: &[u8], store: &mut [u8], work: &mut [u8], out: &mut [u8]) -> Answer
-    ensures { λ r. ⌜ Replaces (now (document .entry)) (length (now (store .entry))) r (now (work .entry)) (now (work .exit)) (now (out .entry)) (now (out .exit)) ⌝ }
+    ensures { λ r. ⌜ Replaces (now (document .entry)) (length (now (store .entry))) r (now (work .entry)) (now (work .exit)) (now (out .entry)) (now (out .exit)) × Free (now (store .entry)) (now (store .exit)) ⌝ }
 {
     let mut draft = [0u8; 16384];
     replace_in(document, store, work, out, &mut draft)
@@ -288,7 +288,7 @@ fn replace_short(document: &[u8], store: &mut [u8], work: &mut [u8], out: &mut [
 
 // The replacement in a document.
 pub fn replace(document: &[u8], store: &mut [u8], work: &mut [u8], out: &mut [u8]) -> Answer
-    ensures { λ r. ⌜ Replaces (now (document .entry)) (length (now (store .entry))) r (now (work .entry)) (now (work .exit)) (now (out .entry)) (now (out .exit)) ⌝ }
+    ensures { λ r. ⌜ Replaces (now (document .entry)) (length (now (store .entry))) r (now (work .entry)) (now (work .exit)) (now (out .entry)) (now (out .exit)) × Free (now (store .entry)) (now (store .exit)) ⌝ }
 {
     if document.len() < 2048 {
         return replace_short(document, store, work, out);

@@ -18,7 +18,7 @@ ghost use Rattle.token.specs.Key.{rows};
 ghost use Rattle.markup.specs.Print.{printAll};
 ghost use Rattle.print.specs.Shown.{NodesAt, Printable, Prints};
 ghost use Rattle.latex2mathml.specs.Translate.{inMath};
-ghost use Rattle.latex2mathml.specs.Written.{opening, Translates};
+ghost use Rattle.latex2mathml.specs.Written.{opening, Free, Translates};
 
 // Puts the opening tag of the wrapper.
 fn put_opening(display: DisplayStyle, out: &mut [u8], at: usize, write: bool) -> usize
@@ -36,7 +36,7 @@ fn put_opening(display: DisplayStyle, out: &mut [u8], at: usize, write: bool) ->
 }
 
 // Puts the markup of n nodes of the body from the index a on in its wrapper, or counts it.
-pub fn put_math(
+pub(crate) fn put_math(
     s: &[u8],
     display: DisplayStyle,
     store: &[u8],
@@ -58,7 +58,7 @@ pub fn put_math(
 
 // The markup of a body, with the nodes of its tree in a lent store: measured, then written.
 pub fn latex_to_mathml(s: &[u8], display: DisplayStyle, store: &mut [u8], out: &mut [u8]) -> Answer
-    ensures { λ r. ⌜ Translates (now (s .entry)) display (length (now (store .entry))) r (now (out .entry)) (now (out .exit)) ⌝ }
+    ensures { λ r. ⌜ Translates (now (s .entry)) display (length (now (store .entry))) r (now (out .entry)) (now (out .exit)) × Free (now (store .entry)) (now (store .exit)) ⌝ }
 {
     if 4096 < s.len() {
         return Answer::Refused(Refusal::TooLong);

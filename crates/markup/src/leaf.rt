@@ -27,7 +27,7 @@ ghost use Rattle.ast.specs.Tree.{leaf};
 ghost use Rattle.ast.specs.Inside.{LeafInside};
 
 // Puts a fixed text between two pieces.
-pub fn put_text_in(
+pub(crate) fn put_text_in(
     front: &[u8],
     t: u32,
     back: &[u8],
@@ -54,7 +54,7 @@ fn put_width_in(front: &[u8], w: u32, back: &[u8], out: &mut [u8], at: usize, wr
 }
 
 // Puts a character between two pieces.
-pub fn put_character_in(
+pub(crate) fn put_character_in(
     front: &[u8],
     c: u32,
     back: &[u8],

@@ -12,29 +12,18 @@ use Rattle.latex2mathml.specs.Written.{over}
 use Rattle.latex2mathml.specs.Replace.{replacement}
 use Rattle.page.specs.declared.PageAnswer.{PageAnswer}
 use Rattle.page.specs.Page.{page, outputOf}
-use Rattle.page.specs.Run.{answerOf}
 use Rattle.page.specs.Words.{Run, output, paragraph, break, prose, formula, ReplacedBy, DifferInParagraph, DifferInBody}
 use Rattle.page.specs.Demand.{AllButOne, TwoRuns}
 use Rattle.page.specs.Examples.{page-opens}
 use Rattle.page.proofs.DemandLaws.{long-enough, demand3}
+use Rattle.page.proofs.RunLaws.{ran}
 
 -- the run of a document with the page program's store and work buffer and an output of 300 bytes, which hold zeros
 abbrev zeros : List ℕ
 zeros = replicate 300 0
 
 abbrev on : String → Run
-on document =
-    let d = bytes document in
-    let outcome = page d 61440 65536 (length zeros) in
-    record {
-      document = d;
-      store = 61440;
-      work = 65536;
-      entry = zeros;
-      answer = answerOf outcome;
-      exit = over (outputOf outcome) zeros;
-      promise = record { answer = refl; output = refl };
-    }
+on document = let d = bytes document in ran d 61440 65536 zeros (over (outputOf (page d 61440 65536 (length zeros))) zeros) refl
 
 -- what a paragraph is replaced by there, or why it is refused
 abbrev there : String → Outcome (List ℕ)

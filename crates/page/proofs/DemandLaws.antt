@@ -11,18 +11,20 @@ use lib.Seq.{take-at}
 use borrow.Author.Tests.{le-ltb}
 use Rattle.text.proofs.Cases.{never}
 use Rattle.error.specs.declared.Refusal.{Refusal}
-use Rattle.latex2mathml.specs.Outcome.{Outcome, accepted, refused, _>>=_, refuse, documentLimit}
+use Rattle.latex2mathml.specs.Outcome.{Outcome, accepted, refused, _>>=_, refuse, documentLimit, numberOf}
 use Rattle.latex2mathml.specs.Written.{over}
 use Rattle.latex2mathml.specs.Translate.{translate}
 use Rattle.latex2mathml.specs.Replace.{replacement, replaceOutcome, replace}
-use Rattle.latex2mathml.proofs.OutcomeLaws.{by-outcome, not-refused}
+use Rattle.latex2mathml.proofs.OutcomeLaws.{by-outcome, number-range, not-refused}
 use Rattle.page.specs.declared.PageAnswer.{PageAnswer}
 use Rattle.page.specs.Pieces.{Pieces, last, piece, pieces}
-use Rattle.page.specs.Page.{shown, left, shownAll, paragraphs, leftAll, Paged, page, outputOf}
-use Rattle.page.specs.Run.{answerOf}
-use Rattle.page.specs.Words.{Run, lengthOf, output, Piece, paragraph, break, listed, inOrder, paragraphCount, ReplacedBy, RefusedThere, Out, copied, replaced, typed, written, Comes, typedCount, tidy, Part, prose, formula, parts, displayOf, Shows, Differ, DifferInParagraph}
-use Rattle.page.specs.Demand.{Each, joined, Made, Shared, OneRun, Beside, NotRefused, AllButOne, TwoRuns, Demand3}
+use Rattle.page.specs.Page.{shown, left, shownAll, paragraphs, leftAll, Paged, page, outputOf, paragraphsOf, leftOf}
+use Rattle.page.specs.Run.{answerNumber, answerLength, answerParagraphs, answerLeft}
+use Rattle.page.specs.Words.{Run, output, Piece, paragraph, break, listed, inOrder, paragraphCount, ReplacedBy, RefusedThere, Out, copied, replaced, typed, written, Comes, typedCount, tidy, Part, prose, formula, parts, displayOf, Shows, Differ, DifferInParagraph, dollarRuns}
+use Rattle.page.specs.Demand.{Each, joined, Made, Shared, TheCut, TheRuns, OneRun, Beside, NotRefused, AllButOne, TwoRuns, Demand3}
 use Rattle.page.proofs.ParagraphLaws.{shown-replaced, left-replaced, shown-typed, left-typed}
+use Rattle.page.proofs.CutLaws.{cut-joins, cut-right, cut-only}
+use Rattle.page.proofs.DollarRunLaws.{joins, cut-apart, only-cut}
 use Rattle.page.proofs.TidyLaws.{tidied}
 use Rattle.page.proofs.SharedLaws.{OneOutcome, shared}
 
@@ -118,22 +120,27 @@ record Returns (a : Run) (count left : ℕ) : Type 0 where
   pub kept : left ≡ leftAll (a .store) (a .work) (pieces (a .document))
 
 returns : (a : Run) (n count left : ℕ) → a .answer ≡ PageAnswer.Accepted n count left → Returns a count left
-unfolding output lengthOf answerOf outputOf over
+unfolding output answerNumber answerLength answerParagraphs answerLeft numberOf outputOf paragraphsOf leftOf over
 returns a n count left e =
     by-outcome (page (a .document) (a .store) (a .work) (length (a .entry)))
     (λ p is.
     let h = accepts (a .document) (a .store) (a .work) (length (a .entry)) p is in
-    let told = rw is at (a .promise .answer) in
     let after = rw is at (a .promise .output) in
-    let long : n ≡ length (p .output) = cc in
-    let number : count ≡ p .paragraphs = cc in
-    let few : left ≡ p .left = cc in
+    let long = rw (e, is) at (a .promise .size) in
+    let number = rw (e, is) at (a .promise .paragraphs) in
+    let few = rw (e, is) at (a .promise .left) in
     record {
       bytes = rw (e, after) (take-at (p .output) (drop (length (p .output)) (a .entry)) n (sym long) ∙ h .bytes);
       counted = number ∙ h .counted;
       kept = few ∙ h .kept;
     })
-    (λ r is. let told = rw is at (a .promise .answer) in never cc)
+    (λ r is. let none = rw (e, is) at (a .promise .number) in absurd (omega (arith, number-range r)))
+
+the-cut : (document : List ℕ) → TheCut document
+the-cut document = record { joins = cut-joins document; right = cut-right document; only = λ ps e right. sym (cut-only ps right) ∙ ap pieces e }
+
+the-runs : (p : List ℕ) → TheRuns p
+the-runs p = record { joins = joins p; right = cut-apart p; only = λ rs e right. sym (only-cut rs right) ∙ ap dollarRuns e }
 
 pub one-run : (a : Run) (n count left : ℕ) → a .answer ≡ PageAnswer.Accepted n count left → OneRun a count left
 unfolding inOrder
@@ -141,9 +148,12 @@ one-run a n count left e =
     let h = returns a n count left e in
     let all = all-came (a .store) (a .work) (pieces (a .document)) in
     record {
+      cut = the-cut (a .document);
       made = record { outs = all .outs; each = all .each; whole = h .bytes ∙ sym (all .bytes) };
       counted = h .counted ∙ counts (a .store) (a .work) (pieces (a .document));
       kept = h .kept ∙ sym (all .count);
+      runs = the-runs;
+      tidied = λ p m neat by. tidied (a .store) (a .work) p m neat by;
     }
 
 -- ---- two runs
@@ -220,4 +230,4 @@ two-runs a b (n, count, few, e) (k, number, kept, f) beside {p} {q} d =
     }
 
 pub demand3 : Demand3
-demand3 = record { oneRun = one-run; tidied = tidied; twoRuns = two-runs }
+demand3 = record { oneRun = one-run; twoRuns = two-runs }

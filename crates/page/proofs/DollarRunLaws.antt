@@ -6,35 +6,11 @@ use mathlib.Core.List.{List, [], _∷_, _++_, append-nil}
 use Prim.Native.Nat.{ℕ, zero, suc, _≤_}
 use native.Mathlib.Omega.{arith}
 use lib.Dec.{eqb}
-use lib.ListN.{replicate}
 use borrow.Author.Tests.{eqb-true, not-true}
 use Rattle.text.specs.Plain.{plain}
 use Rattle.text.proofs.Cases.{by-test}
 use Rattle.text.proofs.PlainLaws.{plain-cons}
-use Rattle.page.specs.Words.{Runs, end, run, withByte, withDollar, dollarRuns}
-
-abbrev pub dollars : ℕ → List ℕ
-dollars n = replicate n 36
-
--- the bytes of a cut paragraph
-abbrev pub typedRuns : Runs → List ℕ
-typedRuns (end t) = t
-typedRuns (run t n rest) = t ++ (dollars n ++ typedRuns rest)
-
--- a list that is not empty
-abbrev pub Some : List ℕ → Type 0
-Some [] = ⊥
-Some (b ∷ l) = Unit {0}
-
--- what stands behind a run is the last text, or a text that is not empty before the next run
-abbrev pub Behind : Runs → Type 0
-Behind (end t) = Unit {0}
-Behind (run t n rest) = Some t
-
--- no text has a dollar, each run has one or more, and runs are apart
-abbrev pub Apart : Runs → Type 0
-Apart (end t) = plain t ≡ true
-Apart (run t n rest) = (plain t ≡ true) × (1 ≤ n) × Behind rest × Apart rest
+use Rattle.page.specs.Words.{Runs, end, run, withByte, withDollar, dollarRuns, dollars, typedRuns, Behind, Apart}
 
 -- ---- what the cut has
 

@@ -12,4 +12,5 @@ pub mod SpanLaws
 pub mod TidyLaws
 pub mod SharedLaws
 pub mod DemandLaws
+pub mod RunLaws
 pub mod DemandExamples

@@ -12,7 +12,7 @@ use Rattle.text.specs.Plain.{plain}
 use Rattle.text.proofs.PlainLaws.{plain-cons}
 use Rattle.latex2mathml.specs.Replace.{dollar, twoDollars, places}
 use Rattle.latex2mathml.specs.Dollars.{mark, width}
-use Rattle.page.proofs.DollarRunLaws.{dollars, Some}
+use Rattle.page.specs.Words.{dollars, Some}
 
 -- ---- the first byte
 

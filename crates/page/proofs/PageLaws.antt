@@ -11,20 +11,20 @@ use borrow.Author.Tests.{lt-ltb, le-ltb}
 use Rattle.text.specs.Put.{Room, Puts}
 use Rattle.text.proofs.PutLaws.{puts-all}
 use Rattle.error.specs.declared.Refusal.{Refusal}
-use Rattle.latex2mathml.specs.Outcome.{accepted, refused, _>>=_, refuse, documentLimit}
+use Rattle.latex2mathml.specs.Outcome.{accepted, refused, _>>=_, refuse, documentLimit, numberOf}
 use Rattle.latex2mathml.specs.Written.{over}
 use Rattle.page.specs.declared.PageAnswer.{PageAnswer}
 use Rattle.page.specs.declared.Totals.{Totals}
 use Rattle.page.specs.Pieces.{pieces}
-use Rattle.page.specs.Page.{shownAll, paragraphs, leftAll, page, outputOf}
-use Rattle.page.specs.Run.{answerOf, Pages}
+use Rattle.page.specs.Page.{shownAll, paragraphs, leftAll, page, outputOf, paragraphsOf, leftOf}
+use Rattle.page.specs.Run.{answerNumber, answerLength, answerParagraphs, answerLeft, Pages}
 use Rattle.page.specs.Marks.{Totalled}
 
 -- a refused page leaves the output as it was
 pages-refused : (document : List ℕ) (store work : ℕ) (r : Refusal) (o : List ℕ) → page document store work (length o) ≡ refused r
     → Pages document store work (PageAnswer.Refused r) o o
-unfolding answerOf outputOf over
-pages-refused document store work r o e = record { answer = rw e; output = rw e }
+unfolding answerNumber answerLength answerParagraphs answerLeft numberOf outputOf paragraphsOf leftOf over
+pages-refused document store work r o e = record { number = rw e; size = rw e; paragraphs = rw e; left = rw e; output = rw e }
 
 module _ (document : List ℕ) (store work : ℕ) (o : List ℕ) where
   pub pages-long : 32768 < length document → Pages document store work (PageAnswer.Refused Refusal.TooLong) o o
@@ -51,9 +51,12 @@ module _ (document : List ℕ) (store work : ℕ) (o : List ℕ) where
 
     pub pages-written : t .length ≤ length o → {o′ : List ℕ} {r : ℕ} → Puts true o o′ 0 (shownAll store work (pieces document)) r
         → Pages document store work (PageAnswer.Accepted (t .length) (t .paragraphs) (t .left)) o o′
-    unfolding answerOf outputOf over
+    unfolding answerNumber answerLength answerParagraphs answerLeft numberOf outputOf paragraphsOf leftOf over
     pages-written room puts = record {
-      answer = rw (accepts room, h .long, h .counted, h .kept);
+      number = rw (accepts room);
+      size = rw (accepts room) (h .long);
+      paragraphs = rw (accepts room) (h .counted);
+      left = rw (accepts room) (h .kept);
       output = rw (accepts room) (puts-all puts);
     }
 

@@ -14,9 +14,10 @@ use Rattle.latex2mathml.specs.declared.Answer.{Answer}
 use Rattle.latex2mathml.specs.Outcome.{Outcome, accepted, refused}
 use Rattle.latex2mathml.specs.Replace.{replacement}
 use Rattle.latex2mathml.specs.Laid.{Laid, Lays, Fits, WrittenThere, growth, AtMost}
+use Rattle.latex2mathml.specs.Written.{answerLength}
 use Rattle.latex2mathml.proofs.OutcomeLaws.{by-outcome}
 use Rattle.page.specs.Page.{shown, left}
-use Rattle.page.specs.Marks.{Drafted}
+use Rattle.page.specs.Marks.{markOf, Drafted}
 
 -- what is laid stands behind what lies before its place
 pub laid-next : (d d′ bs : List ℕ) (at n : ℕ) → n ≡ at + length bs → n ≤ length d → Laid d d′ at bs → take n d′ ≡ take at d ++ bs
@@ -48,28 +49,34 @@ module _ (p : List ℕ) (store work : ℕ) where
 
   -- what is drafted of it
   module _ (d d′ m : List ℕ) (at k : ℕ) where
-    pub drafted-replaced : (n : ℕ) → Lays (replacement p store work) d d′ at (Answer.Accepted n) → AtMost (at + length p * (growth * growth)) (Answer.Accepted n)
-        → Drafted p store work d d′ at m (set m k 0) k n
-    drafted-replaced n h most =
+    pub drafted-replaced : (a : Answer) (x n : ℕ) → x ≡ markOf a → x ≡ 0 → n ≡ answerLength a → Lays (replacement p store work) d d′ at a
+        → AtMost (at + length p * (growth * growth)) a → Drafted p store work d d′ at m (set m k x) k n
+    unfolding markOf answerLength
+    drafted-replaced (Answer.Refused r) x n is none end h most = absurd (omega arith)
+    drafted-replaced (Answer.Accepted z) x n is none end h most =
         let e = shown-replaced (h .text) (h .is) in
         let place = h .place in
-        record {
+        rw (none, end)
+        (record {
           place = rw e (h .place);
           most = most;
-          front = λ fits. rw e (laid-next d d′ (h .text) at n (h .place) fits (h .laid));
+          front = λ fits. rw e (laid-next d d′ (h .text) at z (h .place) fits (h .laid));
           mark = rw (left-replaced (h .text) (h .is));
-        }
+        })
 
-    pub drafted-typed : (d₁ : List ℕ) (r : Refusal) (n : ℕ) → Lays (replacement p store work) d d₁ at (Answer.Refused r) → length d₁ ≡ length d
-        → n ≡ at + length p → Laid d₁ d′ at p → Drafted p store work d d′ at m (set m k 1) k n
-    drafted-typed d₁ r n h same place laid =
+    pub drafted-typed : (a : Answer) (x n : ℕ) (d₁ : List ℕ) → x ≡ markOf a → (x ≡ 0 → ⊥) → Lays (replacement p store work) d d₁ at a → length d₁ ≡ length d
+        → n ≡ at + length p → Laid d₁ d′ at p → Drafted p store work d d′ at m (set m k x) k n
+    unfolding markOf
+    drafted-typed (Answer.Accepted z) x n d₁ is some h same place laid = absurd (some is)
+    drafted-typed (Answer.Refused r) x n d₁ is some h same place laid =
         let e = shown-typed r (h .0) in
-        record {
+        rw is
+        (record {
           place = rw e place;
           most = omega arith;
           front = λ fits. rw (e, ← h .1) (laid-next d₁ d′ p at n place (omega arith) laid);
           mark = rw (left-typed r (h .0));
-        }
+        })
 
   -- what is written of it
   pub fits-replaced : (o : List ℕ) (at : ℕ) → left store work p ≡ 0 → Room true o at (length (shown store work p)) → Fits (replacement p store work) o at

@@ -15,7 +15,7 @@ use Rattle.latex2mathml.specs.Replace.{places, translateBody, substitute}
 use Rattle.latex2mathml.specs.Dollars.{mark, width}
 use Rattle.latex2mathml.specs.Laid.{passed}
 use Rattle.page.specs.Demand.{Each, joined, Made}
-use Rattle.page.proofs.DollarRunLaws.{dollars}
+use Rattle.page.specs.Words.{dollars}
 
 -- what stands between two lists
 pub part-at : (s p b q : List ℕ) (a e : ℕ) → s ≡ p ++ (b ++ q) → a ≡ length p → e ≡ a + length b → part a e s ≡ b

@@ -20,9 +20,9 @@ use Rattle.latex2mathml.specs.Laid.{passed}
 use Rattle.latex2mathml.proofs.PlainLaws.{markup-plain}
 use Rattle.latex2mathml.proofs.OutcomeLaws.{steps, not-refused}
 use Rattle.latex2mathml.proofs.ReplaceLaws.{both-accepted, first-accepted, second-passed}
-use Rattle.page.specs.Words.{ReplacedBy, dollarRuns, tidy, parts, displayOf, Shows}
+use Rattle.page.specs.Words.{ReplacedBy, dollarRuns, tidy, parts, displayOf, Shows, dollars}
 use Rattle.page.specs.Demand.{Each, joined, Made}
-use Rattle.page.proofs.DollarRunLaws.{dollars, joins, cut-apart}
+use Rattle.page.proofs.DollarRunLaws.{joins, cut-apart}
 use Rattle.page.proofs.MarkLaws.{places-plain, places-body, places-inline}
 use Rattle.page.proofs.PassLaws.{Item, still, body, marked, Finds, Becomes, passed-made}
 use Rattle.page.proofs.SpanLaws.{Span, text, maths, partOf, spanned, Fine, spans-of}

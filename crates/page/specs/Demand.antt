@@ -6,7 +6,9 @@ use mathlib.Core.List.{List, [], _∷_, _++_, map, flatten}
 use Prim.Native.Nat.{ℕ}
 use lib.ListN.{length}
 use Rattle.page.specs.declared.PageAnswer.{PageAnswer}
-use Rattle.page.specs.Words.{Run, output, Piece, inOrder, paragraphCount, ReplacedBy, written, Comes, typedCount, tidy, Part, parts, Shows, Differ, DifferInParagraph, DifferInBody}
+use Rattle.page.specs.Pieces.{Pieces, pieces}
+use Rattle.page.specs.Cut.{typedAll, RightCut}
+use Rattle.page.specs.Words.{Run, output, Runs, dollarRuns, typedRuns, Apart, Piece, inOrder, paragraphCount, ReplacedBy, written, Comes, typedCount, tidy, Part, parts, Shows, Differ, DifferInParagraph, DifferInBody}
 
 -- the relation holds of the elements of two lists, first with first, second with second, and both have as many
 abbrev pub Each : {A B : Type 0} → (A → B → Type 0) → List A → List B → Type 0
@@ -39,12 +41,27 @@ pub record Shared {A B : Type 0} (R : A → B → Type 0) (bytes : B → List �
   pub wholeFirst : m ≡ joined bytes before ++ bytes own ++ joined bytes behind
   pub wholeSecond : n ≡ joined bytes before ++ bytes other ++ joined bytes behind
 
+-- the cut of a document into paragraphs and breaks is the right one, and no other cut of it is
+pub record TheCut (document : List ℕ) : Type 0 where
+  pub joins : typedAll (pieces document) ≡ document
+  pub right : RightCut (pieces document)
+  pub only : (ps : Pieces) → typedAll ps ≡ document → RightCut ps → ps ≡ pieces document
+
+-- and so is that of a paragraph at its dollar runs
+pub record TheRuns (p : List ℕ) : Type 0 where
+  pub joins : typedRuns (dollarRuns p) ≡ p
+  pub right : Apart (dollarRuns p)
+  pub only : (rs : Runs) → typedRuns rs ≡ p → Apart rs → rs ≡ dollarRuns p
+
 -- one run that is not refused: its output is its paragraphs and breaks in order and nothing else, and the two numbers handed back count the
--- paragraphs and those refused
+-- paragraphs and those refused; a tidy paragraph that is replaced comes out as its prose as typed and its formulas' bodies translated alone
 pub record OneRun (a : Run) (paragraphs left : ℕ) : Type 0 where
+  pub cut : TheCut (a .document)
   pub made : Made (Comes (a .store) (a .work)) written (inOrder (a .document)) (output a)
   pub counted : paragraphs ≡ paragraphCount (inOrder (a .document))
   pub kept : left ≡ typedCount (made .outs)
+  pub runs : (p : List ℕ) → TheRuns p
+  pub tidied : (p m : List ℕ) → tidy p ≡ true → ReplacedBy (a .store) (a .work) p m → Made (Shows (a .store)) (λ t. t) (parts p) m
 
 -- two runs with equal lent sizes
 pub record Beside (a b : Run) : Type 0 where
@@ -78,5 +95,4 @@ pub record TwoRuns (a b : Run) {p q : List ℕ} (d : DifferInParagraph (a .docum
 -- demand 3, one claim over all paragraphs of a document together and over any two runs
 pub record Demand3 : Type 0 where
   pub oneRun : (a : Run) (n paragraphs left : ℕ) → a .answer ≡ PageAnswer.Accepted n paragraphs left → OneRun a paragraphs left
-  pub tidied : (store work : ℕ) (p m : List ℕ) → tidy p ≡ true → ReplacedBy store work p m → Made (Shows store) (λ t. t) (parts p) m
   pub twoRuns : (a b : Run) → NotRefused a → NotRefused b → Beside a b → {p q : List ℕ} (d : DifferInParagraph (a .document) (b .document) p q) → TwoRuns a b d

@@ -12,13 +12,13 @@ use Rattle.latex2mathml.specs.Marked.{latex2mathml-opens}
 use Rattle.page.specs.Pieces.{last, piece, lineFeeds, cut, pieces}
 use Rattle.page.specs.Breaks.{lineFeed, twoLineFeeds, noLineFeed}
 use Rattle.page.specs.Page.{shown, left, shownAll, paragraphs, leftAll, Paged, page, outputOf, paragraphsOf, leftOf}
-use Rattle.page.specs.Run.{answerOf}
+use Rattle.page.specs.Run.{answerNumber, answerLength, answerParagraphs, answerLeft}
 use Rattle.page.specs.Marks.{marks}
-use Rattle.page.specs.Words.{Part, prose, formula, lengthOf, output, listed, inOrder, paragraphCount, written, typedCount, withByte, withDollar, dollarRuns, lengths, paired, tidy, partsOf, parts, displayOf}
+use Rattle.page.specs.Words.{Part, prose, formula, output, listed, inOrder, paragraphCount, written, typedCount, withByte, withDollar, dollarRuns, lengths, paired, tidy, partsOf, parts, displayOf}
 
 -- whoever unfolds this unfolds all definitions of this crate and of those below it, as an example has to
 unfoldable pub page-opens : Unit {0}
-unfolding latex2mathml-opens lineFeeds cut pieces lineFeed twoLineFeeds noLineFeed shown left shownAll paragraphs leftAll page outputOf paragraphsOf leftOf answerOf marks lengthOf output listed inOrder paragraphCount written typedCount withByte withDollar dollarRuns lengths paired tidy partsOf parts displayOf
+unfolding latex2mathml-opens lineFeeds cut pieces lineFeed twoLineFeeds noLineFeed shown left shownAll paragraphs leftAll page outputOf paragraphsOf leftOf answerNumber answerLength answerParagraphs answerLeft marks output listed inOrder paragraphCount written typedCount withByte withDollar dollarRuns lengths paired tidy partsOf parts displayOf
 page-opens = tt
 
 -- one line feed is no break, a break takes the whole run, and a paragraph may be empty

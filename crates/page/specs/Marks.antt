@@ -4,12 +4,18 @@ use mathlib.Core.Path.{_≡_}
 use mathlib.Core.List.{List, [], _∷_, _++_}
 use Prim.Native.Nat.{ℕ, _+_, _*_, _≤_}
 use lib.ListN.{length, take, set}
+use Rattle.latex2mathml.specs.declared.Answer.{Answer}
 use Rattle.latex2mathml.specs.Laid.{growth}
 use Rattle.page.specs.declared.Totals.{Totals}
 use Rattle.page.specs.Pieces.{Pieces, last, piece, pieces}
 use Rattle.page.specs.Page.{shown, left, shownAll, paragraphs, leftAll}
 
--- a mark for each paragraph: 1 where it is left as typed, else 0
+-- the mark of a paragraph, by what its replacement answers: 1 where it is left as typed, else 0
+unfoldable pub markOf : Answer → ℕ
+markOf (Answer.Accepted n) = 0
+markOf (Answer.Refused r) = 1
+
+-- a mark for each paragraph
 unfoldable pub marks : ℕ → ℕ → Pieces → List ℕ
 marks store work (last paragraph) = left store work paragraph ∷ []
 marks store work (piece paragraph break rest) = left store work paragraph ∷ marks store work rest

@@ -1,20 +1,36 @@
--- What the page operation promises: its answer, and what the output holds afterwards. Free is what the lent store and the work buffer hold.
+-- What the page operation promises: what its answer says, and what the output holds afterwards.
 -- Assumes nothing.
 use mathlib.Core.Path.{_≡_}
 use mathlib.Core.List.{List}
 use Prim.Native.Nat.{ℕ}
 use lib.ListN.{length}
-use Rattle.latex2mathml.specs.Outcome.{Outcome, accepted, refused}
+use Rattle.error.specs.Numbers.{number}
+use Rattle.latex2mathml.specs.Outcome.{numberOf}
 use Rattle.latex2mathml.specs.Written.{over}
 use Rattle.page.specs.declared.PageAnswer.{PageAnswer}
-use Rattle.page.specs.Page.{Paged, page, outputOf}
+use Rattle.page.specs.Page.{page, outputOf, paragraphsOf, leftOf}
 
--- what the operation answers: the length of the output and the two counts, or why it writes nothing
-unfoldable pub answerOf : Outcome Paged → PageAnswer
-answerOf (accepted p) = PageAnswer.Accepted (length (p .output)) (p .paragraphs) (p .left)
-answerOf (refused r) = PageAnswer.Refused r
+-- what an answer says: document 01's number, the length of the output, the number of paragraphs, and of those left as typed
+unfoldable pub answerNumber : PageAnswer → ℕ
+answerNumber (PageAnswer.Accepted n paragraphs left) = 0
+answerNumber (PageAnswer.Refused r) = number r
+
+unfoldable pub answerLength : PageAnswer → ℕ
+answerLength (PageAnswer.Accepted n paragraphs left) = n
+answerLength (PageAnswer.Refused r) = 0
+
+unfoldable pub answerParagraphs : PageAnswer → ℕ
+answerParagraphs (PageAnswer.Accepted n paragraphs left) = paragraphs
+answerParagraphs (PageAnswer.Refused r) = 0
+
+unfoldable pub answerLeft : PageAnswer → ℕ
+answerLeft (PageAnswer.Accepted n paragraphs left) = left
+answerLeft (PageAnswer.Refused r) = 0
 
 -- the page operation, with `store` and `work` bytes lent for the records and the work buffer, answers r, and the output that was o is o′
 pub record Pages (document : List ℕ) (store work : ℕ) (r : PageAnswer) (o o′ : List ℕ) : Type 0 where
-  pub answer : r ≡ answerOf (page document store work (length o))
+  pub number : answerNumber r ≡ numberOf (page document store work (length o))
+  pub size : answerLength r ≡ length (outputOf (page document store work (length o)))
+  pub paragraphs : answerParagraphs r ≡ paragraphsOf (page document store work (length o))
+  pub left : answerLeft r ≡ leftOf (page document store work (length o))
   pub output : o′ ≡ over (outputOf (page document store work (length o))) o

@@ -6,7 +6,8 @@ use mathlib.Core.List.{List, [], _∷_, _++_}
 use Prim.Native.Nat.{ℕ, suc, _≤_}
 use Prim.Native.Char.{code}
 use lib.Dec.{eqb}
-use lib.ListN.{length, take}
+use lib.ListN.{length, take, replicate}
+use Rattle.text.specs.Plain.{plain}
 use Rattle.attribute.specs.declared.DisplayStyle.{DisplayStyle}
 use Rattle.error.specs.declared.Refusal.{Refusal}
 use Rattle.latex2mathml.specs.Outcome.{Outcome, accepted, refused}
@@ -14,7 +15,7 @@ use Rattle.latex2mathml.specs.Translate.{translate}
 use Rattle.latex2mathml.specs.Replace.{Replaced, replace}
 use Rattle.page.specs.declared.PageAnswer.{PageAnswer}
 use Rattle.page.specs.Pieces.{Pieces, last, piece, pieces}
-use Rattle.page.specs.Run.{Pages}
+use Rattle.page.specs.Run.{answerLength, Pages}
 
 -- ---- runs
 
@@ -29,14 +30,9 @@ pub record Run : Type 0 where
   pub exit : List ℕ
   pub promise : Pages document store work answer entry exit
 
--- the length returned
-unfoldable pub lengthOf : PageAnswer → ℕ
-lengthOf (PageAnswer.Accepted n paragraphs left) = n
-lengthOf (PageAnswer.Refused r) = 0
-
 -- an operation's output: the output buffer's first bytes, as many as the length returned
 unfoldable pub output : Run → List ℕ
-output run = take (lengthOf (run .answer)) (run .exit)
+output run = take (answerLength (run .answer)) (run .exit)
 
 -- ---- paragraphs and breaks
 
@@ -115,6 +111,29 @@ withDollar (run (b ∷ t) n rest) = run [] 1 (run (b ∷ t) n rest)
 unfoldable pub dollarRuns : List ℕ → Runs
 dollarRuns [] = end []
 dollarRuns (b ∷ l) = elim (eqb b (code "$")) [ true ↦ withDollar (dollarRuns l) | false ↦ withByte b (dollarRuns l) ]
+
+-- the bytes of a cut paragraph
+abbrev pub dollars : ℕ → List ℕ
+dollars n = replicate n (code "$")
+
+abbrev pub typedRuns : Runs → List ℕ
+typedRuns (end t) = t
+typedRuns (run t n rest) = t ++ (dollars n ++ typedRuns rest)
+
+-- a list that is not empty
+abbrev pub Some : List ℕ → Type 0
+Some [] = ⊥
+Some (b ∷ l) = Unit {0}
+
+-- what stands behind a run is the last text, or a text that is not empty before the next run
+abbrev pub Behind : Runs → Type 0
+Behind (end t) = Unit {0}
+Behind (run t n rest) = Some t
+
+-- the right cut: no text has a dollar, each run has one or more, and runs are apart
+abbrev pub Apart : Runs → Type 0
+Apart (end t) = plain t ≡ true
+Apart (run t n rest) = (plain t ≡ true) × (1 ≤ n) × Behind rest × Apart rest
 
 unfoldable pub lengths : Runs → List ℕ
 lengths (end t) = []

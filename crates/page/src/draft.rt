@@ -11,7 +11,28 @@ ghost use Prim.Native.Nat.{_+_, _*_, _^_, _≤_, _<_};
 ghost use lib.ListN.{length};
 ghost use Rattle.token.specs.Key.{rows};
 ghost use Rattle.latex2mathml.specs.Laid.{growth};
-ghost use Rattle.page.specs.Marks.{Drafted, Totalled};
+ghost use Rattle.latex2mathml.specs.Written.{answerLength};
+ghost use Rattle.page.specs.Marks.{markOf, Drafted, Totalled};
+
+// The mark of a paragraph, by what its replacement answers.
+fn mark_of(answer: Answer) -> u8
+    ensures { λ r. ⌜ r ≡ markOf answer ⌝ }
+{
+    match answer {
+        Answer::Accepted(_) => 0,
+        Answer::Refused(_) => 1,
+    }
+}
+
+// The place behind a replacement that was laid.
+fn end_of(answer: Answer) -> usize
+    ensures { λ r. ⌜ r ≡ answerLength answer ⌝ }
+{
+    match answer {
+        Answer::Accepted(end) => end,
+        Answer::Refused(_) => 0,
+    }
+}
 
 // Lays a paragraph at a place as it comes out, and marks at k whether it is left as typed; the answer is the place behind it.
 fn draft_paragraph(
@@ -27,16 +48,13 @@ fn draft_paragraph(
     requires { ⌜ (k < length (now left)) × (at + length (now p) * (growth * growth) < 2 ^ 63) × (now table ≡ rows) ⌝ }
     ensures { λ r. ⌜ Drafted (now (p .entry)) (length (now (store .entry))) (length (now (work .entry))) (now (draft .entry)) (now (draft .exit)) at (now (left .entry)) (now (left .exit)) k r ⌝ }
 {
-    match lay_replacement(p, store, work, draft, at, table) {
-        Answer::Accepted(end) => {
-            left[k] = 0;
-            end
-        }
-        Answer::Refused(_) => {
-            left[k] = 1;
-            lay(p, draft, at)
-        }
+    let answer = lay_replacement(p, store, work, draft, at, table);
+    let mark = mark_of(answer);
+    left[k] = mark;
+    if mark == 0 {
+        return end_of(answer);
     }
+    lay(p, draft, at)
 }
 
 // A byte as a number of the machine.

@@ -10,6 +10,7 @@ use text::put::put;
 use token::table::table;
 ghost use Prim.Native.Nat.{_*_, _≤_, _<_};
 ghost use lib.ListN.{length};
+ghost use Rattle.latex2mathml.specs.Written.{Free};
 ghost use Rattle.page.specs.Run.{Pages};
 
 // What the page operation gives: the length of the output, the number of paragraphs and of those left as typed, or why it wrote nothing.
@@ -35,7 +36,7 @@ fn page_in(
     left: &mut [u8],
 ) -> PageAnswer
     requires { ⌜ (length (now document) ≤ 32768) × (length (now document) < 2 * length (now left)) ⌝ }
-    ensures { λ r. ⌜ Pages (now (document .entry)) (length (now (store .entry))) (length (now (work .entry))) r (now (out .entry)) (now (out .exit)) ⌝ }
+    ensures { λ r. ⌜ Pages (now (document .entry)) (length (now (store .entry))) (length (now (work .entry))) r (now (out .entry)) (now (out .exit)) × Free (now (store .entry)) (now (store .exit)) × Free (now (work .entry)) (now (work .exit)) ⌝ }
 {
     let commands = table();
     let totals = draft_page(document, store, work, draft, left, &commands);
@@ -54,7 +55,7 @@ fn page_in(
 // The page operation on a short document, whose draft and marks take less space to clear.
 fn short_page(document: &[u8], store: &mut [u8], work: &mut [u8], out: &mut [u8]) -> PageAnswer
     requires { ⌜ length (now document) < 2048 ⌝ }
-    ensures { λ r. ⌜ Pages (now (document .entry)) (length (now (store .entry))) (length (now (work .entry))) r (now (out .entry)) (now (out .exit)) ⌝ }
+    ensures { λ r. ⌜ Pages (now (document .entry)) (length (now (store .entry))) (length (now (work .entry))) r (now (out .entry)) (now (out .exit)) × Free (now (store .entry)) (now (store .exit)) × Free (now (work .entry)) (now (work .exit)) ⌝ }
 {
     let mut draft = [0u8; 16384];
     let mut left = [0u8; 1024];
@@ -63,7 +64,7 @@ fn short_page(document: &[u8], store: &mut [u8], work: &mut [u8], out: &mut [u8]
 
 // The page operation; a document of 32,768 bytes has at most 16,385 paragraphs.
 pub fn page(document: &[u8], store: &mut [u8], work: &mut [u8], out: &mut [u8]) -> PageAnswer
-    ensures { λ r. ⌜ Pages (now (document .entry)) (length (now (store .entry))) (length (now (work .entry))) r (now (out .entry)) (now (out .exit)) ⌝ }
+    ensures { λ r. ⌜ Pages (now (document .entry)) (length (now (store .entry))) (length (now (work .entry))) r (now (out .entry)) (now (out .exit)) × Free (now (store .entry)) (now (store .exit)) × Free (now (work .entry)) (now (work .exit)) ⌝ }
 {
     if 32768 < document.len() {
         return PageAnswer::Refused(Refusal::TooLong);

@@ -10,15 +10,16 @@ use lib.Seq.{take-at, length-take-le}
 use borrow.Author.Tests.{lt-ltb, le-ltb}
 use Rattle.text.specs.Put.{Room, Puts}
 use Rattle.text.specs.Examples.{text-opens}
-use Rattle.text.proofs.Cases.{never, by-order}
+use Rattle.text.proofs.Cases.{by-order}
 use Rattle.text.proofs.PutLaws.{puts-all}
 use Rattle.error.specs.declared.Refusal.{Refusal}
 use Rattle.error.specs.Numbers.{number}
-use Rattle.latex2mathml.specs.Outcome.{Outcome, accepted, refused}
+use Rattle.latex2mathml.specs.Outcome.{Outcome, accepted, refused, numberOf}
 use Rattle.latex2mathml.specs.Written.{over}
+use Rattle.latex2mathml.proofs.OutcomeLaws.{number-range}
 use Rattle.page.specs.declared.PageAnswer.{PageAnswer}
 use Rattle.page.specs.Page.{Paged, page, outputOf}
-use Rattle.page.specs.Run.{answerOf, Pages}
+use Rattle.page.specs.Run.{answerNumber, answerLength, Pages}
 use Rattle.page_main.specs.Program.{decimal, refusal, program, Answers}
 
 -- the code takes the last digit as a remainder also where it is the only one
@@ -34,22 +35,6 @@ two-digits n h = rw (decimal, le-ltb n 10 h)
 
 decimal-short : (n : ℕ) → length (decimal n) ≤ 2
 decimal-short n = by-order n 10 (λ h. rw (one-digit n h) (omega arith)) (λ h. rw (two-digits n h) (omega arith))
-
--- the number of a refusal has at most two digits
-pub number-small : (r : Refusal) → number r < 100
-unfolding number
-number-small Refusal.TooLong = omega arith
-number-small Refusal.IllFormed = omega arith
-number-small Refusal.StoreTooSmall = omega arith
-number-small Refusal.InvalidNumberOfDollarSigns = omega arith
-number-small Refusal.ThreeDollarSigns = omega arith
-number-small Refusal.UnexpectedToken = omega arith
-number-small Refusal.MissingParensethis = omega arith
-number-small Refusal.UnknownEnvironment = omega arith
-number-small Refusal.MiddleOperand = omega arith
-number-small Refusal.TooDeep = omega arith
-number-small Refusal.WorkTooSmall = omega arith
-number-small Refusal.OutputTooSmall = omega arith
 
 refusal-short : (r : Refusal) → length (refusal r) ≤ 11
 unfolding refusal text-opens
@@ -76,28 +61,33 @@ fronted document l o {n} {o′} is long kept e =
     let f = front l o kept e in
     rw long (record { inside = f .0; size = sym (length-take-le (length l) o′ (f .0)); written = f .1 ∙ sym is })
 
--- an answer that accepts tells the page
-accepted-page : (document o : List ℕ) (want : Outcome Paged) {n p q : ℕ} {o′ : List ℕ} → page document 61440 65536 65536 ≡ want
-    → PageAnswer.Accepted n p q ≡ answerOf want → length o′ ≡ length o → o′ ≡ over (outputOf want) o → Answers document n o′
-unfolding answerOf outputOf program
-accepted-page document o (accepted paged) is e kept f = fronted document (paged .output) o (rw (program, is)) (cc) kept f
-accepted-page document o (refused r) is e kept f = never cc
+-- a page that is accepted is what the program writes
+pub accepted-page : (document : List ℕ) (p : Paged) → page document 61440 65536 65536 ≡ accepted p → program document ≡ p .output
+unfolding program
+accepted-page document p is = rw (program, is)
 
--- an answer that refuses tells the line
-refused-page : (document : List ℕ) (want : Outcome Paged) {r : Refusal} → page document 61440 65536 65536 ≡ want
-    → PageAnswer.Refused r ≡ answerOf want → program document ≡ refusal r
-unfolding answerOf program
-refused-page document (accepted paged) is e = never cc
-refused-page document (refused q) is e = rw (program, is) cc
+told-page : (document o : List ℕ) (want : Outcome Paged) {n : ℕ} {o′ : List ℕ} → page document 61440 65536 65536 ≡ want → 0 ≡ numberOf want
+    → n ≡ length (outputOf want) → length o′ ≡ length o → o′ ≡ over (outputOf want) o → Answers document n o′
+unfolding numberOf outputOf
+told-page document o (accepted p) is none long kept f = fronted document (p .output) o (accepted-page document p is) long kept f
+told-page document o (refused r) is none long kept f = absurd (omega (arith, number-range r))
+
+-- for one that is refused it writes the line with its number
+refused-page : (document : List ℕ) (want : Outcome Paged) (r : Refusal) → page document 61440 65536 65536 ≡ want
+    → number r ≡ numberOf want → program document ≡ refusal r
+unfolding numberOf program refusal
+refused-page document (accepted p) r is e = absurd (omega (arith, number-range r))
+refused-page document (refused q) r is e = rw (program, is) (rw (sym e))
 
 -- the two ways through the program, over an output of its size that keeps its length
 module _ {document o o′ : List ℕ} (long : 65536 ≡ length o) (kept : length o′ ≡ length o) where
   pub answer-accepts : {n p q : ℕ} → Pages document 61440 65536 (PageAnswer.Accepted n p q) o o′ → Answers document n o′
-  answer-accepts g = accepted-page document o (page document 61440 65536 (length o)) (rw long) (g .answer) kept (g .output)
+  unfolding answerNumber answerLength
+  answer-accepts g = told-page document o (page document 61440 65536 (length o)) (rw long) (g .number) (g .size) kept (g .output)
 
   pub answer-refuses : {r : Refusal} {n : ℕ} {o″ : List ℕ} → length o″ ≡ length o′ → Pages document 61440 65536 (PageAnswer.Refused r) o o′
       → Puts true o′ o″ 0 (refusal r) n → Answers document n o″
-  unfolding over
+  unfolding over answerNumber
   answer-refuses {r} {n} same g p =
-      let e : program document ≡ refusal r = refused-page document (page document 61440 65536 (length o)) (rw long) (g .answer) in
+      let e : program document ≡ refusal r = refused-page document (page document 61440 65536 (length o)) r (rw long) (g .number) in
       fronted document (refusal r) o′ e (omega (arith, p .place)) same (puts-all p)

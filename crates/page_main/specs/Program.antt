@@ -10,8 +10,12 @@ use lib.ListN.{length, take}
 use Rattle.text.specs.Text.{bytes}
 use Rattle.error.specs.declared.Refusal.{Refusal}
 use Rattle.error.specs.Numbers.{number}
-use Rattle.latex2mathml.specs.Outcome.{accepted, refused}
+use Rattle.latex2mathml.specs.Outcome.{accepted, refused, documentLimit}
 use Rattle.page.specs.Page.{page}
+
+-- how many bytes of standard input are read at most: one more than a document may have, so that a longer one is seen
+unfoldable pub readLimit : ℕ
+readLimit = documentLimit + 1
 
 -- a number below a hundred in decimal
 unfoldable pub decimal : ℕ → List ℕ

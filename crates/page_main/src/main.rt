@@ -6,11 +6,12 @@ use libc::STDOUT_FILENO;
 use page::PageAnswer;
 use page::page;
 use text::put::put;
-ghost use Prim.Native.Nat.{_<_};
+ghost use mathlib.Core.Path.{_≡_};
+ghost use Prim.Native.Nat.{_≤_, _<_};
 ghost use mathlib.Core.Bool.{true};
-ghost use lib.ListN.{length};
+ghost use lib.ListN.{length, take};
 ghost use Rattle.text.specs.Put.{Room, Puts};
-ghost use Rattle.page_main.specs.Program.{decimal, refusal, Answers};
+ghost use Rattle.page_main.specs.Program.{readLimit, decimal, refusal, Answers};
 
 // Puts a number of one or two digits, as every number of a refusal is.
 fn put_decimal(n: u32, out: &mut [u8], at: usize) -> usize
@@ -47,11 +48,26 @@ fn answer(document: &[u8], out: &mut [u8; 65536]) -> usize
     }
 }
 
-// One byte more than a document may have is read, so that a longer one is seen.
+// The same for the first n bytes of an input.
+fn answer_first(input: &[u8], n: usize, out: &mut [u8; 65536]) -> usize
+    requires { ⌜ n ≤ length (now input) ⌝ }
+    ensures { λ r. ⌜ Answers (take n (now (input .entry))) r (now (out .exit)) ⌝ }
+{
+    answer(&input[..n], out)
+}
+
+// The same for the n bytes that were read, with a place more for them than a document may have bytes.
+fn respond(input: &[u8; 32769], n: usize, out: &mut [u8; 65536]) -> usize
+    requires { ⌜ n ≤ length (now input) ⌝ }
+    ensures { λ r. ⌜ (length (now (input .entry)) ≡ readLimit) × Answers (take n (now (input .entry))) r (now (out .exit)) ⌝ }
+{
+    answer_first(input, n, out)
+}
+
 fn main() {
     let mut input = [0u8; 32769];
     let n = io::read_full(STDIN_FILENO, &mut input);
     let mut out = [0u8; 65536];
-    let length = answer(&input[..n], &mut out);
+    let length = respond(&input, n, &mut out);
     io::write_all(STDOUT_FILENO, &out[..length]);
 }

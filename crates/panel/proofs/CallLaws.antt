@@ -1,33 +1,30 @@
 -- From what an operation answers to what the exported function returns, a law for each way through it.
 -- Assumes nothing.
-use mathlib.Core.Path.{_≡_, refl}
+use mathlib.Core.Path.{_≡_, _∙_}
 use mathlib.Core.List.{List}
 use Prim.Native.Nat.{ℕ}
 use lib.ListN.{length}
-use Rattle.text.proofs.Cases.{never}
 use Rattle.error.specs.declared.Refusal.{Refusal}
 use Rattle.error.specs.Numbers.{number}
 use Rattle.latex2mathml.specs.declared.Answer.{Answer}
-use Rattle.latex2mathml.specs.Outcome.{Outcome, accepted, refused, numberOf, bytesOf}
+use Rattle.latex2mathml.specs.Outcome.{Outcome}
 use Rattle.latex2mathml.specs.Replace.{replace}
-use Rattle.latex2mathml.specs.Written.{answerOf, over, Gives, Replaces}
+use Rattle.latex2mathml.specs.Written.{answerNumber, answerLength, Gives, Replaces}
 use Rattle.page.specs.declared.PageAnswer.{PageAnswer}
-use Rattle.page.specs.Page.{Paged, page, outputOf, paragraphsOf, leftOf}
-use Rattle.page.specs.Run.{Pages}
-use Rattle.page.specs.Run.{answerOf as pageAnswerOf}
+use Rattle.page.specs.Page.{page}
+use Rattle.page.specs.Run.{answerParagraphs, answerLeft, Pages}
+use Rattle.page.specs.Run.{answerNumber as pageNumber, answerLength as pageLength}
 use Rattle.panel.specs.Calls.{TranslateCall, ReplaceCall, PageCall}
 
 -- what is accepted is returned as 0 with its length
-pub translate-accepts : (want : Outcome (List ℕ)) {n : ℕ} {o o′ : List ℕ} → Gives want (Answer.Accepted n) o o′ → TranslateCall want 0 n o o′
-unfolding answerOf numberOf bytesOf
-translate-accepts (accepted l) g = let e = g .answer in record { number = refl; size = cc; output = g .output }
-translate-accepts (refused r) g = let e = g .answer in never cc
+pub translate-accepts : {want : Outcome (List ℕ)} {n : ℕ} {o o′ : List ℕ} → Gives want (Answer.Accepted n) o o′ → TranslateCall want 0 n o o′
+unfolding answerNumber answerLength
+translate-accepts g = record { number = g .number; size = g .size; output = g .output }
 
 -- what is refused is returned as its number with the length 0
-pub translate-refuses : (want : Outcome (List ℕ)) {r : Refusal} {n : ℕ} {o o′ : List ℕ} → n ≡ number r → Gives want (Answer.Refused r) o o′ → TranslateCall want n 0 o o′
-unfolding answerOf numberOf bytesOf
-translate-refuses (accepted l) is g = let e = g .answer in never cc
-translate-refuses (refused q) is g = let e = g .answer in record { number = cc; size = refl; output = g .output }
+pub translate-refuses : {want : Outcome (List ℕ)} {r : Refusal} {n : ℕ} {o o′ : List ℕ} → n ≡ number r → Gives want (Answer.Refused r) o o′ → TranslateCall want n 0 o o′
+unfolding answerNumber answerLength
+translate-refuses is g = record { number = is ∙ g .number; size = g .size; output = g .output }
 
 -- the replacement promises what the body translation does, and what the work buffer holds
 abbrev with-work : {document : List ℕ} {store n l : ℕ} {r : Answer} {w w′ o o′ : List ℕ} → Replaces document store r w w′ o o′
@@ -37,28 +34,20 @@ with-work g t = record { number = t .number; size = t .size; output = t .output;
 
 pub replace-accepts : {document : List ℕ} {store n : ℕ} {w w′ o o′ : List ℕ} → Replaces document store (Answer.Accepted n) w w′ o o′
     → ReplaceCall (replace document store (length w) (length o)) 0 n w w′ o o′
-replace-accepts g = with-work g (translate-accepts _ (g .gives))
+replace-accepts g = with-work g (translate-accepts (g .gives))
 
 pub replace-refuses : {document : List ℕ} {store n : ℕ} {r : Refusal} {w w′ o o′ : List ℕ} → n ≡ number r → Replaces document store (Answer.Refused r) w w′ o o′
     → ReplaceCall (replace document store (length w) (length o)) n 0 w w′ o o′
-replace-refuses is g = with-work g (translate-refuses _ is (g .gives))
+replace-refuses is g = with-work g (translate-refuses is (g .gives))
 
 -- a page that is accepted is returned as 0 with its length and its counts
-paged-accepts : (want : Outcome Paged) {n p q : ℕ} {o o′ : List ℕ} → PageAnswer.Accepted n p q ≡ pageAnswerOf want → o′ ≡ over (outputOf want) o → PageCall want 0 n p q o o′
-unfolding pageAnswerOf numberOf outputOf paragraphsOf leftOf
-paged-accepts (accepted page) e f = record { number = refl; size = cc; paragraphs = cc; left = cc; output = f }
-paged-accepts (refused r) e f = never cc
-
--- a page that is refused is returned as its number with three zeros
-paged-refuses : (want : Outcome Paged) {r : Refusal} {n : ℕ} {o o′ : List ℕ} → n ≡ number r → PageAnswer.Refused r ≡ pageAnswerOf want → o′ ≡ over (outputOf want) o → PageCall want n 0 0 0 o o′
-unfolding pageAnswerOf numberOf outputOf paragraphsOf leftOf
-paged-refuses (accepted page) is e f = never cc
-paged-refuses (refused q) is e f = record { number = cc; size = refl; paragraphs = refl; left = refl; output = f }
-
 pub page-accepts : {document : List ℕ} {store work n p q : ℕ} {o o′ : List ℕ} → Pages document store work (PageAnswer.Accepted n p q) o o′
     → PageCall (page document store work (length o)) 0 n p q o o′
-page-accepts g = paged-accepts _ (g .answer) (g .output)
+unfolding pageNumber pageLength answerParagraphs answerLeft
+page-accepts g = record { number = g .number; size = g .size; paragraphs = g .paragraphs; left = g .left; output = g .output }
 
+-- a page that is refused is returned as its number with three zeros
 pub page-refuses : {document : List ℕ} {store work n : ℕ} {r : Refusal} {o o′ : List ℕ} → n ≡ number r → Pages document store work (PageAnswer.Refused r) o o′
     → PageCall (page document store work (length o)) n 0 0 0 o o′
-page-refuses is g = paged-refuses _ is (g .answer) (g .output)
+unfolding pageNumber pageLength answerParagraphs answerLeft
+page-refuses is g = record { number = is ∙ g .number; size = g .size; paragraphs = g .paragraphs; left = g .left; output = g .output }

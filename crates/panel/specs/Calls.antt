@@ -1,16 +1,16 @@
 -- What the exported functions promise, for an operation that gives `want`: the number returned, what is written through the
--- references, and what each lent buffer holds afterwards. Free is what the store holds, and the work buffer after a page.
+-- references, and what the output and the work buffer hold afterwards.
 -- Assumes nothing.
 use mathlib.Core.Path.{_≡_}
 use mathlib.Core.Bool.{Bool, true, false}
 use mathlib.Core.List.{List}
 use Prim.Native.Nat.{ℕ}
-use lib.ListN.{length}
+use lib.ListN.{length, take}
 use Rattle.attribute.specs.declared.DisplayStyle.{DisplayStyle}
 use Rattle.latex2mathml.specs.Outcome.{Outcome, numberOf, bytesOf}
 use Rattle.latex2mathml.specs.Replace.{Replaced}
 use Rattle.latex2mathml.specs.Written.{over}
-use Rattle.page.specs.Page.{Paged, outputOf, paragraphsOf, leftOf}
+use Rattle.page.specs.Page.{Paged, page, outputOf, paragraphsOf, leftOf}
 
 -- block or inline
 unfoldable pub styleOf : Bool → DisplayStyle
@@ -37,3 +37,20 @@ pub record PageCall (want : Outcome Paged) (n l p q : ℕ) (o o′ : List ℕ) :
   pub paragraphs : p ≡ paragraphsOf want
   pub left : q ≡ leftOf want
   pub output : o′ ≡ over (outputOf want) o
+
+-- one call of `latex_page`: what it was lent, what it returned and wrote, and the function's promise of it
+pub record Call : Type 0 where
+  pub document : List ℕ
+  pub store : ℕ
+  pub work : ℕ
+  pub entry : List ℕ
+  pub exit : List ℕ
+  pub number : ℕ
+  pub size : ℕ
+  pub paragraphs : ℕ
+  pub left : ℕ
+  pub promise : PageCall (page document store work (length entry)) number size paragraphs left entry exit
+
+-- its output: the buffer's first bytes, as many as the size that was written
+unfoldable pub outputOfCall : Call → List ℕ
+outputOfCall call = take (call .size) (call .exit)

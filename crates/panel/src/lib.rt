@@ -4,9 +4,10 @@ use latex2mathml::Answer;
 use latex2mathml::number;
 use page::PageAnswer;
 ghost use mathlib.Core.Path.{_≡_};
-ghost use lib.ListN.{length as size};
+ghost use lib.ListN.{length};
 ghost use Rattle.latex2mathml.specs.Translate.{translate};
 ghost use Rattle.latex2mathml.specs.Replace.{replace};
+ghost use Rattle.latex2mathml.specs.Written.{Free};
 ghost use Rattle.page.specs.Page.{page};
 ghost use Rattle.panel.specs.Calls.{styleOf, TranslateCall, ReplaceCall, PageCall};
 
@@ -20,25 +21,25 @@ fn style_of(block: bool) -> DisplayStyle
     DisplayStyle::Inline
 }
 
-// Body translation; the length is written on refusal too, so that the host reads no old one.
+// Body translation; the size of the output is written on refusal too, so that the host reads no old one.
 #[no_mangle]
 pub extern "C" fn latex_to_mathml(
     latex: &[u8],
     block: bool,
     store: &mut [u8],
     output: &mut [u8],
-    length: &mut u64,
+    size: &mut u64,
 ) -> u32
-    ensures { λ r. ⌜ TranslateCall (translate (now (latex .entry)) (styleOf block) (size (now (store .entry))) (size (now (output .entry)))) r (now (length .exit)) (now (output .entry)) (now (output .exit)) ⌝ }
+    ensures { λ r. ⌜ TranslateCall (translate (now (latex .entry)) (styleOf block) (length (now (store .entry))) (length (now (output .entry)))) r (now (size .exit)) (now (output .entry)) (now (output .exit)) × Free (now (store .entry)) (now (store .exit)) ⌝ }
 {
     let display = style_of(block);
     match latex2mathml::translate::latex_to_mathml(latex, display, store, output) {
         Answer::Accepted(n) => {
-            *length = n as u64;
+            *size = n as u64;
             0
         }
         Answer::Refused(r) => {
-            *length = 0;
+            *size = 0;
             number(r)
         }
     }
@@ -51,17 +52,17 @@ pub extern "C" fn latex_replace(
     store: &mut [u8],
     work: &mut [u8],
     output: &mut [u8],
-    length: &mut u64,
+    size: &mut u64,
 ) -> u32
-    ensures { λ r. ⌜ ReplaceCall (replace (now (document .entry)) (size (now (store .entry))) (size (now (work .entry))) (size (now (output .entry)))) r (now (length .exit)) (now (work .entry)) (now (work .exit)) (now (output .entry)) (now (output .exit)) ⌝ }
+    ensures { λ r. ⌜ ReplaceCall (replace (now (document .entry)) (length (now (store .entry))) (length (now (work .entry))) (length (now (output .entry)))) r (now (size .exit)) (now (work .entry)) (now (work .exit)) (now (output .entry)) (now (output .exit)) × Free (now (store .entry)) (now (store .exit)) ⌝ }
 {
     match latex2mathml::replace::replace(document, store, work, output) {
         Answer::Accepted(n) => {
-            *length = n as u64;
+            *size = n as u64;
             0
         }
         Answer::Refused(r) => {
-            *length = 0;
+            *size = 0;
             number(r)
         }
     }
@@ -74,21 +75,21 @@ pub extern "C" fn latex_page(
     store: &mut [u8],
     work: &mut [u8],
     output: &mut [u8],
-    length: &mut u64,
+    size: &mut u64,
     paragraphs: &mut u64,
     refused: &mut u64,
 ) -> u32
-    ensures { λ r. ⌜ PageCall (page (now (document .entry)) (size (now (store .entry))) (size (now (work .entry))) (size (now (output .entry)))) r (now (length .exit)) (now (paragraphs .exit)) (now (refused .exit)) (now (output .entry)) (now (output .exit)) ⌝ }
+    ensures { λ r. ⌜ PageCall (page (now (document .entry)) (length (now (store .entry))) (length (now (work .entry))) (length (now (output .entry)))) r (now (size .exit)) (now (paragraphs .exit)) (now (refused .exit)) (now (output .entry)) (now (output .exit)) × Free (now (store .entry)) (now (store .exit)) × Free (now (work .entry)) (now (work .exit)) ⌝ }
 {
     match page::page(document, store, work, output) {
         PageAnswer::Accepted(n, pieces, left) => {
-            *length = n as u64;
+            *size = n as u64;
             *paragraphs = pieces as u64;
             *refused = left as u64;
             0
         }
         PageAnswer::Refused(r) => {
-            *length = 0;
+            *size = 0;
             *paragraphs = 0;
             *refused = 0;
             number(r)

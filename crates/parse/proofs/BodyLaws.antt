@@ -1,6 +1,6 @@
 -- The nodes of a body, one turn of the loop after the other, and the limits before it.
 -- Assumes nothing.
-use mathlib.Core.Path.{_≡_, sym, _∙_, ap}
+use mathlib.Core.Path.{_≡_, refl, sym, _∙_, ap}
 use mathlib.Core.Bool.{true, false}
 use mathlib.Core.List.{List}
 use Prim.Native.Nat.{ℕ, zero, suc, _+_, _-_, _*_, _/_, _≤_, _<_}
@@ -74,6 +74,7 @@ module _ {tab : List ℕ} (depth : ℕ) (s : List ℕ) {st₀ st : List ℕ} {q 
         nodes = g .ns;
         after = q;
         is = is;
+        records = refl;
         prev = g .before;
         last = last;
         held = rw (new-made s) at (g .held);

@@ -22,11 +22,13 @@ parseBody depth s store =
       | false ↦ elim (ltb (store / 24) (2 * length s)) [ true ↦ refused Refusal.StoreTooSmall | false ↦ parse depth s ]
     ]
 
--- the nodes wanted of the body s are n, and stand in the store from the index `first` on, in the records below `hi`
+-- the nodes wanted of the body s are n, and stand in the store from the index `first` on, in the records below `hi`, which are those that the
+-- definition makes
 pub record StoresBody (s st′ : List ℕ) (want : Parsed Nodes) (first n hi : ℕ) : Type 0 where
   pub nodes : Nodes
   pub after : Parser
   pub is : want ≡ made nodes after
+  pub records : hi ≡ after .made
   pub prev : ℕ
   pub last : ℕ
   pub held : holdsAll st′ 0 first prev last hi nodes

@@ -56,7 +56,7 @@ pub enum ParsedNodes {
 }
 
 // A node with the scripts behind it, which takes two calls; a token that stands alone is made a leaf without the second.
-pub fn parse_node(s: &[u8], store: &mut [u8], p: Parser, depth: usize, table: &Table) -> ParsedNode
+fn parse_node(s: &[u8], store: &mut [u8], p: Parser, depth: usize, table: &Table) -> ParsedNode
     requires { ⌜ Ready (now table) (now s) (now store) p ⌝ }
     ensures { λ r. ⌜ Builds (now (store .entry)) (now (store .exit)) (p .made) p (parseNode depth (now (s .entry)) p) r ⌝ }
 {

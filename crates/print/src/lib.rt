@@ -55,7 +55,7 @@ fn put_front_matrix(align: ColumnAlign, out: &mut [u8], at: usize, write: bool) 
 }
 
 // Prints the node at an index below `left`. Its parts stand before it, so they are below `left - 1`.
-pub fn print_node(
+fn print_node(
     place: Place,
     s: &[u8],
     store: &[u8],

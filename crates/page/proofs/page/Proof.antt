@@ -1,4 +1,5 @@
 -- `page::page` meets its contract.
+use mathlib.Core.Path.{refl}
 use lib.ListN.{length}
 use Rattle.page.proofs.PageLaws.{pages-long}
 use borrow.Author.Needs.{needs}
@@ -12,7 +13,7 @@ use Rattle.page.proofs.short_page.Reads as short-page-reads
 
 returns : tie.Need-returns
 returns c =
-    pages-long ((c .before .before .before .before .before .args) .document .now) (length ((c .before .before .before .before .before .args) .store .now)) (length ((c .before .before .before .before .before .args) .work .now)) ((c .before .before .before .before .before .args) .out .now) ((c .if1) .taken)
+    (pages-long ((c .before .before .before .before .before .args) .document .now) (length ((c .before .before .before .before .before .args) .store .now)) (length ((c .before .before .before .before .before .args) .work .now)) ((c .before .before .before .before .before .args) .out .now) ((c .if1) .taken), refl, refl)
 
 short-page-requires : tie.Need-short-page-requires
 short-page-requires c κs = search needs

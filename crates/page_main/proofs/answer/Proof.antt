@@ -32,11 +32,11 @@ put-refusal-requires c κs =
 
 returns : tie.Need-returns
 returns c =
-    answer-accepts (search needs) ((c .before .before .before .before .before .page) .kept .1 .1 .1 .0) (rw ((c .before .n) .given .1) at ((c .before .before .before .before .before .page) .ensures))
+    answer-accepts (search needs) ((c .before .before .before .before .before .page) .kept .1 .1 .1 .0) (rw ((c .before .n) .given .1) at ((c .before .before .before .before .before .page) .ensures .0))
 
 returns-2 : tie.Need-returns-2
 returns-2 c =
-    answer-refuses (search needs) ((c .before .before .before .before .before .before .before .page) .kept .1 .1 .1 .0) ((c .put-refusal) .kept .1 .0) (rw ((c .before .before .before .r) .given .1) at ((c .before .before .before .before .before .before .before .page) .ensures)) ((c .put-refusal) .ensures)
+    answer-refuses (search needs) ((c .before .before .before .before .before .before .before .page) .kept .1 .1 .1 .0) ((c .put-refusal) .kept .1 .0) (rw ((c .before .before .before .r) .given .1) at ((c .before .before .before .before .before .before .before .page) .ensures .0)) ((c .put-refusal) .ensures)
 
 pub answer-spec : {M : Type 1} → statement M
 answer-spec =

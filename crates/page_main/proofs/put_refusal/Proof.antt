@@ -5,7 +5,7 @@ use Rattle.text.specs.Examples.{text-opens}
 use Rattle.text.proofs.PutLaws.{room-1, room-2, room-3, puts-3}
 use Rattle.error.specs.Numbers.{number}
 use Rattle.page_main.specs.Program.{decimal, refusal}
-use Rattle.page_main.proofs.ProgramLaws.{number-small}
+use Rattle.latex2mathml.proofs.OutcomeLaws.{number-range}
 use borrow.Author.Needs.{needs}
 use native.Mathlib.Omega.{arith}
 use Rattle.page_main.proofs.put_refusal.Statement.{statement}
@@ -30,7 +30,7 @@ number-requires c κs = search needs
 put-decimal-requires : tie.Need-put-decimal-requires
 unfolding text-opens refusal
 put-decimal-requires c κs =
-    rw ((c .before .number) .ensures) (number-small ((c .before .before .before .before .before .before .before .before .args) .r), room-2 (bytes "refused ") (decimal (number ((c .before .before .before .before .before .before .before .before .args) .r))) (bytes "\n") (c .before .before .before .before .before .before .before .before .pre) ((c .before .before .before .before .put) .ensures))
+    rw ((c .before .number) .ensures) (number-range ((c .before .before .before .before .before .before .before .before .args) .r) .1, room-2 (bytes "refused ") (decimal (number ((c .before .before .before .before .before .before .before .before .args) .r))) (bytes "\n") (c .before .before .before .before .before .before .before .before .pre) ((c .before .before .before .before .put) .ensures))
 
 slice-aggregate-put-2 : tie.Need-slice-aggregate-put-2
 slice-aggregate-put-2 c = search needs

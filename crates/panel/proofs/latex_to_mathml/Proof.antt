@@ -34,7 +34,7 @@ same-length-2 c = search needs
 
 returns : tie.Need-returns
 returns c =
-    translate-accepts _ (rw ((c .before .n) .given .1, (c .before .before .before .before .before .before .before .before .before .before .style-of) .ensures) at ((c .before .before .before .before .before .before .before .latex-to-mathml) .ensures))
+    (translate-accepts (rw ((c .before .n) .given .1, (c .before .before .before .before .before .before .before .before .before .before .style-of) .ensures) at ((c .before .before .before .before .before .before .before .latex-to-mathml) .ensures .0)), (c .before .before .before .before .before .before .before .latex-to-mathml) .ensures .1)
 
 same-length-3 : tie.Need-same-length-3
 same-length-3 c = search needs
@@ -44,7 +44,7 @@ same-length-4 c = search needs
 
 returns-2 : tie.Need-returns-2
 returns-2 c =
-    translate-refuses _ ((c .number) .ensures) (rw ((c .before .before .r) .given .1, (c .before .before .before .before .before .before .before .before .before .before .before .style-of) .ensures) at ((c .before .before .before .before .before .before .before .before .latex-to-mathml) .ensures))
+    (translate-refuses ((c .number) .ensures) (rw ((c .before .before .r) .given .1, (c .before .before .before .before .before .before .before .before .before .before .before .style-of) .ensures) at ((c .before .before .before .before .before .before .before .before .latex-to-mathml) .ensures .0)), (c .before .before .before .before .before .before .before .before .latex-to-mathml) .ensures .1)
 
 pub latex-to-mathml-spec : {M : Type 1} → statement M
 latex-to-mathml-spec =

@@ -1,6 +1,6 @@
 -- `latex2mathml::translate::latex_to_mathml` meets its contract.
 -- Assumes nothing.
-use mathlib.Core.Path.{sym, _∙_}
+use mathlib.Core.Path.{refl, sym, _∙_}
 use lib.ListN.{length}
 use borrow.Author.Tests.{not-true, not-false}
 use Rattle.latex2mathml.proofs.TranslateLaws.{too-long, ill-formed, body-no, gives-nothing}
@@ -19,7 +19,7 @@ use Rattle.token.proofs.table.table.Reads as table-reads
 returns : tie.Need-returns
 returns c =
     let g = gives-nothing ((c .before .before .before .before .args) .out .now) (too-long ((c .before .before .before .before .args) .s .now) ((c .before .before .before .before .args) .display) (length ((c .before .before .before .before .args) .store .now)) (length ((c .before .before .before .before .args) .out .now)) ((c .if1) .taken)) in
-    g
+    (g, refl)
 
 well-formed-requires : tie.Need-well-formed-requires
 well-formed-requires c κs = search needs
@@ -27,7 +27,7 @@ well-formed-requires c κs = search needs
 returns-2 : tie.Need-returns-2
 returns-2 c =
     let g = gives-nothing ((c .before .before .before .before .before .before .args) .out .now) (ill-formed ((c .before .before .before .before .before .before .args) .s .now) ((c .before .before .before .before .before .before .args) .display) (length ((c .before .before .before .before .before .before .args) .store .now)) (length ((c .before .before .before .before .before .before .args) .out .now)) ((c .before .before .if1) .left) (sym ((c .before .well-formed) .ensures) ∙ not-true _ ((c .if2) .taken))) in
-    g
+    (g, refl)
 
 table-requires : tie.Need-table-requires
 table-requires c κs = search needs
@@ -62,7 +62,7 @@ returns-3 : tie.Need-returns-3
 returns-3 c =
     let b = rw ((c .before .before .before .before .before .before .before .before .first) .given .1) at ((c .before .before .before .before .before .before .before .before .before .before .before .before .parse) .ensures) in
     let g = too-large (length ((c .before .before .before .before .before .before .before .before .before .before .before .before .before .before .before .before .before .before .before .before .before .before .args) .store .now)) b ((c .before .before .before .before .before .before .before .before .before .before .before .before .before .before .before .before .before .before .before .before .before .before .args) .display) ((c .before .before .before .before .before .before .before .before .before .before .before .before .before .before .before .before .before .before .if1) .left) ((c .before .before .before .put-math) .ensures) (sym ((c .before .before .before .before .before .before .before .before .before .before .before .before .before .before .before .before .before .well-formed) .ensures) ∙ not-false _ ((c .before .before .before .before .before .before .before .before .before .before .before .before .before .before .before .before .if2) .left)) ((c .if3) .taken) in
-    g
+    (g, (c .before .before .before .before .before .before .before .before .before .before .before .before .parse) .kept .1 .0)
 
 put-math-requires-2 : tie.Need-put-math-requires-2
 put-math-requires-2 c κs =
@@ -76,7 +76,7 @@ returns-4 : tie.Need-returns-4
 returns-4 c =
     let b = rw ((c .before .r) .given .1) at ((c .before .before .before .before .before .parse) .ensures) in
     let g = gives-nothing ((c .before .before .before .before .before .before .before .before .before .before .before .before .before .before .before .args) .out .now) (body-no ((c .before .before .before .before .before .before .before .before .before .before .before .before .before .before .before .args) .s .now) ((c .before .before .before .before .before .before .before .before .before .before .before .before .before .before .before .args) .display) (length ((c .before .before .before .before .before .before .before .before .before .before .before .before .before .before .before .args) .store .now)) (length ((c .before .before .before .before .before .before .before .before .before .before .before .before .before .before .before .args) .out .now)) ((c .before .before .before .before .before .before .before .before .before .before .before .if1) .left) (sym ((c .before .before .before .before .before .before .before .before .before .before .well-formed) .ensures) ∙ not-false _ ((c .before .before .before .before .before .before .before .before .before .if2) .left)) b) in
-    g
+    (g, (c .before .before .before .before .before .parse) .kept .1 .0)
 
 same-length-4 : tie.Need-same-length-4
 same-length-4 c = search needs
@@ -88,7 +88,7 @@ returns-5 : tie.Need-returns-5
 returns-5 c =
     let b = rw ((c .before .before .before .before .before .before .before .before .before .before .before .before .before .before .first) .given .1) at ((c .before .before .before .before .before .before .before .before .before .before .before .before .before .before .before .before .before .before .parse) .ensures) in
     let g = written (length ((c .before .before .before .before .before .before .before .before .before .before .before .before .before .before .before .before .before .before .before .before .before .before .before .before .before .before .before .before .args) .store .now)) b ((c .before .before .before .before .before .before .before .before .before .before .before .before .before .before .before .before .before .before .before .before .before .before .before .before .before .before .before .before .args) .display) ((c .before .before .before .before .before .before .before .before .before .before .before .before .before .before .before .before .before .before .before .before .before .before .before .before .if1) .left) ((c .before .before .before .before .before .before .before .before .before .put-math) .ensures) (sym ((c .before .before .before .before .before .before .before .before .before .before .before .before .before .before .before .before .before .before .before .before .before .before .before .well-formed) .ensures) ∙ not-false _ ((c .before .before .before .before .before .before .before .before .before .before .before .before .before .before .before .before .before .before .before .before .before .before .if2) .left)) ((c .before .before .before .before .before .before .if3) .left) ((c .before .before .put-math2) .ensures) in
-    g
+    (g, (c .before .before .before .before .before .before .before .before .before .before .before .before .before .before .before .before .before .before .parse) .kept .1 .0)
 
 pub latex-to-mathml-spec : {M : Type 1} → statement M
 latex-to-mathml-spec =
