@@ -53,7 +53,7 @@ refused-and-replaced : (there "$a" ≡ refused Refusal.InvalidNumberOfDollarSign
 unfolding page-opens letter
 refused-and-replaced = (refl, refl)
 
-shares : TwoRuns slipped mended one-paragraph-differs
+shares : TwoRuns (slipped .document) (mended .document) 61440 65536 one-paragraph-differs (output slipped) (output mended)
 shares =
     demand3 .twoRuns slipped mended (87, 2, 1, both-accepted .0) (168, 2, 0, both-accepted .1) (record { store = refl; work = refl; room = refl })
     one-paragraph-differs
@@ -93,11 +93,11 @@ both-replaced : (there before ≡ accepted (letter "a" ++ bytes " to " ++ letter
 unfolding page-opens letter
 both-replaced = (refl, refl)
 
-shares-too : TwoRuns lower higher last-paragraph-differs
+shares-too : TwoRuns (lower .document) (higher .document) 61440 65536 last-paragraph-differs (output lower) (output higher)
 shares-too =
     demand3 .twoRuns lower higher (174, 2, 0, both-accepted-too .0) (174, 2, 0, both-accepted-too .1) (record { store = refl; work = refl; room = refl })
     last-paragraph-differs
 
-all-but-the-markup : AllButOne lower higher (shares-too .others) (one-body-differs .differ) (letter "a" ++ bytes " to " ++ letter "b") (letter "a" ++ bytes " to " ++ letter "c")
+all-but-the-markup : AllButOne 61440 65536 (shares-too .others) (one-body-differs .differ) (letter "a" ++ bytes " to " ++ letter "b") (letter "a" ++ bytes " to " ++ letter "c")
 all-but-the-markup =
     shares-too .body one-body-differs _ _ (long-enough 61440 65536 (bytes before) _ (both-replaced .0)) (long-enough 61440 65536 (bytes after) _ (both-replaced .1))

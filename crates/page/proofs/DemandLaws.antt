@@ -142,7 +142,8 @@ the-cut document = record { joins = cut-joins document; right = cut-right docume
 the-runs : (p : List ℕ) → TheRuns p
 the-runs p = record { joins = joins p; right = cut-apart p; only = λ rs e right. sym (only-cut rs right) ∙ ap dollarRuns e }
 
-pub one-run : (a : Run) (n count left : ℕ) → a .answer ≡ PageAnswer.Accepted n count left → OneRun a count left
+pub one-run : (a : Run) (n count left : ℕ) → a .answer ≡ PageAnswer.Accepted n count left
+    → OneRun (a .document) (a .store) (a .work) (output a) count left
 unfolding inOrder
 one-run a n count left e =
     let h = returns a n count left e in
@@ -193,11 +194,11 @@ nested : (b s m t c w u : List ℕ) → w ≡ b ++ u ++ c → u ≡ s ++ m ++ t 
 nested b s m t c w u e f = e ∙ rw f (simp append-assoc)
 
 -- a formula's markup is all that differs, where the paragraph with it comes out as u in one run and as v in the other
-all-but-one : (a b : Run) {xs ys : List Piece} {x y : Piece} {d : Differ xs ys x y} (others : Shared (Comes (a .store) (a .work)) written d (output a) (output b))
-    {ps qs : List Part} {f g : Part} {e : Differ ps qs f g} {u v : List ℕ} → Shared (Shows (a .store)) (λ m. m) e u v
-    → others .own ≡ replaced u → others .other ≡ replaced v → AllButOne a b others e u v
+all-but-one : (store work : ℕ) {xs ys : List Piece} {x y : Piece} {d : Differ xs ys x y} (m n : List ℕ) (others : Shared (Comes store work) written d m n)
+    {ps qs : List Part} {f g : Part} {e : Differ ps qs f g} {u v : List ℕ} → Shared (Shows store) (λ m. m) e u v
+    → others .own ≡ replaced u → others .other ≡ replaced v → AllButOne store work others e u v
 unfolding written
-all-but-one a b others {u = u} {v = v} inside own other =
+all-but-one store work m n others {u = u} {v = v} inside own other =
     let front = joined written (others .before) in
     let back = joined written (others .behind) in
     let before = joined (λ m. m) (inside .before) in
@@ -208,11 +209,12 @@ all-but-one a b others {u = u} {v = v} inside own other =
       tail = behind ++ back;
       isHead = refl;
       isTail = refl;
-      wholeFirst = nested front before (inside .own) behind back (output a) u (rw own at (others .wholeFirst)) (inside .wholeFirst);
-      wholeSecond = nested front before (inside .other) behind back (output b) v (rw other at (others .wholeSecond)) (inside .wholeSecond);
+      wholeFirst = nested front before (inside .own) behind back m u (rw own at (others .wholeFirst)) (inside .wholeFirst);
+      wholeSecond = nested front before (inside .other) behind back n v (rw other at (others .wholeSecond)) (inside .wholeSecond);
     }
 
-two-runs : (a b : Run) → NotRefused a → NotRefused b → Beside a b → {p q : List ℕ} (d : DifferInParagraph (a .document) (b .document) p q) → TwoRuns a b d
+two-runs : (a b : Run) → NotRefused a → NotRefused b → Beside a b → {p q : List ℕ} (d : DifferInParagraph (a .document) (b .document) p q)
+    → TwoRuns (a .document) (b .document) (a .store) (a .work) d (output a) (output b)
 two-runs a b (n, count, few, e) (k, number, kept, f) beside {p} {q} d =
     let one = one-paragraph (a .store) (a .work) in
     let first = one-run a n count few e .made in
@@ -220,11 +222,10 @@ two-runs a b (n, count, few, e) (k, number, kept, f) beside {p} {q} d =
     let all = shared one written d first second in
     record {
       others = all;
-      body = λ {n} {k} {s} {t} body u v x y.
-          let z = rw (← beside .store, ← beside .work) at y in
+      body = λ {n} {k} {s} {t} body u v x z.
           let left-made = tidied (a .store) (a .work) p u (body .tidyFirst) x in
           let right-made = tidied (a .store) (a .work) q v (body .tidySecond) z in
-          all-but-one a b all (shared (one-part (a .store)) (λ m. m) (body .differ) left-made right-made)
+          all-but-one (a .store) (a .work) (output a) (output b) all (shared (one-part (a .store)) (λ m. m) (body .differ) left-made right-made)
           (one (paragraph p) (all .own) (replaced u) (all .first) x)
           (one (paragraph q) (all .other) (replaced v) (all .second) z);
     }

@@ -1,4 +1,5 @@
 -- Demand 3: the statement, about one run of the page operation and about any two.
+-- What is said of a run speaks of its document, the lent sizes and its output, so that it can be said of a call or of a program too.
 -- Assumes nothing.
 use mathlib.Core.Path.{_≡_}
 use mathlib.Core.Bool.{true}
@@ -55,13 +56,32 @@ pub record TheRuns (p : List ℕ) : Type 0 where
 
 -- one run that is not refused: its output is its paragraphs and breaks in order and nothing else, and the two numbers handed back count the
 -- paragraphs and those refused; a tidy paragraph that is replaced comes out as its prose as typed and its formulas' bodies translated alone
-pub record OneRun (a : Run) (paragraphs left : ℕ) : Type 0 where
-  pub cut : TheCut (a .document)
-  pub made : Made (Comes (a .store) (a .work)) written (inOrder (a .document)) (output a)
-  pub counted : paragraphs ≡ paragraphCount (inOrder (a .document))
+pub record OneRun (document : List ℕ) (store work : ℕ) (output : List ℕ) (paragraphs left : ℕ) : Type 0 where
+  pub cut : TheCut document
+  pub made : Made (Comes store work) written (inOrder document) output
+  pub counted : paragraphs ≡ paragraphCount (inOrder document)
   pub kept : left ≡ typedCount (made .outs)
   pub runs : (p : List ℕ) → TheRuns p
-  pub tidied : (p m : List ℕ) → tidy p ≡ true → ReplacedBy (a .store) (a .work) p m → Made (Shows (a .store)) (λ t. t) (parts p) m
+  pub tidied : (p m : List ℕ) → tidy p ≡ true → ReplacedBy store work p m → Made (Shows store) (λ t. t) (parts p) m
+
+-- two outputs share everything but one formula's markup, where the paragraph with that formula is u in one and v in the other
+pub record AllButOne (store work : ℕ) {xs ys : List Piece} {x y : Piece} {d : Differ xs ys x y} {first second : List ℕ} (others : Shared (Comes store work) written d first second)
+    {ps qs : List Part} {f g : Part} (e : Differ ps qs f g) (u v : List ℕ) : Type 0 where
+  pub inside : Shared (Shows store) (λ m. m) e u v
+  pub head : List ℕ
+  pub tail : List ℕ
+  pub isHead : head ≡ joined written (others .before) ++ joined (λ m. m) (inside .before)
+  pub isTail : tail ≡ joined (λ m. m) (inside .behind) ++ joined written (others .behind)
+  pub wholeFirst : first ≡ head ++ inside .own ++ tail
+  pub wholeSecond : second ≡ head ++ inside .other ++ tail
+
+-- two runs with equal lent sizes, neither refused, whose documents differ in one paragraph only: whatever it holds in either, they share every
+-- output byte of all other paragraphs and of the breaks, in order; and if it is tidy with the same dollar runs in both, differs in one
+-- formula's body only and is replaced in both, they share everything but that formula's markup
+pub record TwoRuns (a b : List ℕ) (store work : ℕ) {p q : List ℕ} (d : DifferInParagraph a b p q) (first second : List ℕ) : Type 0 where
+  pub others : Shared (Comes store work) written d first second
+  pub body : {n k : ℕ} {s t : List ℕ} (e : DifferInBody p q n k s t) (u v : List ℕ)
+      → ReplacedBy store work p u → ReplacedBy store work q v → AllButOne store work others (e .differ) u v
 
 -- two runs with equal lent sizes
 pub record Beside (a b : Run) : Type 0 where
@@ -73,26 +93,9 @@ pub record Beside (a b : Run) : Type 0 where
 abbrev pub NotRefused : Run → Type 0
 NotRefused a = (n : ℕ) × (paragraphs : ℕ) × (left : ℕ) × (a .answer ≡ PageAnswer.Accepted n paragraphs left)
 
--- the outputs of two runs share everything but one formula's markup, where the paragraph with that formula is u in one and v in the other
-pub record AllButOne (a b : Run) {xs ys : List Piece} {x y : Piece} {d : Differ xs ys x y} (others : Shared (Comes (a .store) (a .work)) written d (output a) (output b))
-    {ps qs : List Part} {f g : Part} (e : Differ ps qs f g) (u v : List ℕ) : Type 0 where
-  pub inside : Shared (Shows (a .store)) (λ m. m) e u v
-  pub head : List ℕ
-  pub tail : List ℕ
-  pub isHead : head ≡ joined written (others .before) ++ joined (λ m. m) (inside .before)
-  pub isTail : tail ≡ joined (λ m. m) (inside .behind) ++ joined written (others .behind)
-  pub wholeFirst : output a ≡ head ++ inside .own ++ tail
-  pub wholeSecond : output b ≡ head ++ inside .other ++ tail
-
--- two such runs, neither refused, whose documents differ in one paragraph only: whatever it holds in either, they share every output byte of
--- all other paragraphs and of the breaks, in order; and if it is tidy with the same dollar runs in both, differs in one formula's body only
--- and is replaced in both, they share everything but that formula's markup
-pub record TwoRuns (a b : Run) {p q : List ℕ} (d : DifferInParagraph (a .document) (b .document) p q) : Type 0 where
-  pub others : Shared (Comes (a .store) (a .work)) written d (output a) (output b)
-  pub body : {n k : ℕ} {s t : List ℕ} (e : DifferInBody p q n k s t) (u v : List ℕ)
-      → ReplacedBy (a .store) (a .work) p u → ReplacedBy (b .store) (b .work) q v → AllButOne a b others (e .differ) u v
-
 -- demand 3, one claim over all paragraphs of a document together and over any two runs
 pub record Demand3 : Type 0 where
-  pub oneRun : (a : Run) (n paragraphs left : ℕ) → a .answer ≡ PageAnswer.Accepted n paragraphs left → OneRun a paragraphs left
-  pub twoRuns : (a b : Run) → NotRefused a → NotRefused b → Beside a b → {p q : List ℕ} (d : DifferInParagraph (a .document) (b .document) p q) → TwoRuns a b d
+  pub oneRun : (a : Run) (n paragraphs left : ℕ) → a .answer ≡ PageAnswer.Accepted n paragraphs left
+      → OneRun (a .document) (a .store) (a .work) (output a) paragraphs left
+  pub twoRuns : (a b : Run) → NotRefused a → NotRefused b → Beside a b → {p q : List ℕ} (d : DifferInParagraph (a .document) (b .document) p q)
+      → TwoRuns (a .document) (b .document) (a .store) (a .work) d (output a) (output b)

@@ -1,4 +1,4 @@
--- A call of the exported `latex_page` is a run of the page operation, so demand 3 is about any two calls.
+-- Demand 3 of calls of the exported `latex_page`: each is a run of the page operation.
 -- Assumes nothing.
 use mathlib.Core.Path.{_≡_, refl, sym, ap, _∙_}
 use mathlib.Core.List.{List}
@@ -14,12 +14,13 @@ use Rattle.page.specs.Demand.{OneRun, TwoRuns}
 use Rattle.page.proofs.RunLaws.{answering, says-length, ran}
 use Rattle.page.proofs.DemandLaws.{demand3}
 use Rattle.panel.specs.Calls.{PageCall, Call, outputOfCall}
+use Rattle.panel.specs.Demand.{DemandOfCalls}
 
 -- the run that a call is, with the same output
-abbrev pub runOf : Call → Run
+abbrev runOf : Call → Run
 runOf call = ran (call .document) (call .store) (call .work) (call .entry) (call .exit) (call .promise .output)
 
-pub same-output : (call : Call) → output (runOf call) ≡ outputOfCall call
+same-output : (call : Call) → output (runOf call) ≡ outputOfCall call
 unfolding output outputOfCall
 same-output call =
     let want = page (call .document) (call .store) (call .work) (length (call .entry)) in
@@ -31,15 +32,19 @@ unfolding numberOf outputOf paragraphsOf leftOf
 not-refused (accepted page) c e = rw (c .size, c .paragraphs, c .left)
 not-refused (refused r) c e = let n = c .number in absurd (omega (arith, number-range r))
 
-pub one-call : (a : Call) → a .number ≡ 0 → OneRun (runOf a) (a .paragraphs) (a .left)
-one-call a e = demand3 .oneRun (runOf a) (a .size) (a .paragraphs) (a .left) (not-refused _ (a .promise) e)
+one-call : (a : Call) → a .number ≡ 0 → OneRun (a .document) (a .store) (a .work) (outputOfCall a) (a .paragraphs) (a .left)
+one-call a e = rw (← same-output a) (demand3 .oneRun (runOf a) (a .size) (a .paragraphs) (a .left) (not-refused _ (a .promise) e))
 
--- two calls with equal lent sizes that return 0
-pub two-calls : (a b : Call) → a .number ≡ 0 → b .number ≡ 0 → a .store ≡ b .store → a .work ≡ b .work → length (a .entry) ≡ length (b .entry)
-    → {p q : List ℕ} (d : DifferInParagraph (a .document) (b .document) p q) → TwoRuns (runOf a) (runOf b) d
+two-calls : (a b : Call) → a .number ≡ 0 → b .number ≡ 0 → a .store ≡ b .store → a .work ≡ b .work → length (a .entry) ≡ length (b .entry)
+    → {p q : List ℕ} (d : DifferInParagraph (a .document) (b .document) p q)
+    → TwoRuns (a .document) (b .document) (a .store) (a .work) d (outputOfCall a) (outputOfCall b)
 two-calls a b e f store work room d =
-    demand3 .twoRuns (runOf a) (runOf b)
+    rw (← same-output a, ← same-output b)
+    (demand3 .twoRuns (runOf a) (runOf b)
     (a .size, a .paragraphs, a .left, not-refused _ (a .promise) e)
     (b .size, b .paragraphs, b .left, not-refused _ (b .promise) f)
     (record { store = store; work = work; room = room })
-    d
+    d)
+
+pub demand-of-calls : DemandOfCalls
+demand-of-calls = record { oneCall = one-call; twoCalls = two-calls }
