@@ -1,14 +1,14 @@
-//! Compares the port with the unchanged crate and with document 01, byte for byte.
+//! Compares the port with the unchanged crate and with documents 01 and 02, byte for byte.
 //!
 //! Arguments: the crate's sources, seconds (300), seed (1), then the kinds to run (all).
 
 mod case;
 mod compare;
-mod depth;
 #[path = "../src/ffi.rs"]
 mod ffi;
 mod fixed;
 mod generate;
+mod model;
 mod oracle;
 mod paragraphs;
 mod port;
@@ -28,6 +28,8 @@ use words::Words;
 const STACK: usize = 1 << 30;
 const BATCH: u64 = 2_000;
 const REPORTED: usize = 10;
+/// One more than the largest number of a refusal.
+const NUMBERS: usize = 14;
 
 type Make = Box<dyn Fn(u64) -> Option<Case>>;
 
@@ -38,7 +40,7 @@ struct Kind {
     /// Whether the kind has no last case.
     endless: bool,
     over: bool,
-    numbers: [u64; 13],
+    numbers: [u64; NUMBERS],
     mismatches: u64,
 }
 
@@ -49,7 +51,7 @@ fn fixed_kind(name: &'static str, make: impl Fn(u64) -> Option<Case> + 'static) 
         next: 0,
         endless: false,
         over: false,
-        numbers: [0; 13],
+        numbers: [0; NUMBERS],
         mismatches: 0,
     }
 }
@@ -74,6 +76,7 @@ fn fixed_kinds(words: &'static Words) -> Vec<Kind> {
         fixed_kind("short documents", fixed::short_documents),
         fixed_kind("short pages", fixed::short_pages),
         fixed_kind("characters", fixed::character),
+        fixed_kind("scripts", fixed::scripts),
         fixed_kind("tokens", fixed::tokens),
     ]
 }
@@ -152,7 +155,7 @@ impl Run {
 
 fn print_table(kinds: &[Kind]) {
     print!("{:<16}{:>10}{:>10}", "kind", "cases", "accepted");
-    for number in 1..13 {
+    for number in 1..NUMBERS {
         print!("{number:>9}");
     }
     println!();
@@ -180,6 +183,10 @@ fn summary(run: &Run, kinds: &[Kind], seed: u64, begin: Instant) -> bool {
     println!(
         "documents and paragraphs that the crate's own replace confirmed: {}; bodies with an escape undone: {}",
         reckoner.confirmed, reckoner.undone
+    );
+    println!(
+        "bodies that document 02 takes out of the comparison with the crate: {}, {} of them accepted",
+        reckoner.left, reckoner.left_accepted
     );
     println!(
         "seed {seed}, {} seconds: {cases} compared, {mismatches} mismatches, {} faults of the reckoning",

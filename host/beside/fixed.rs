@@ -1,4 +1,4 @@
-//! The cases that are gone through one by one: characters, commands, sequences of tokens, short documents and pages.
+//! The cases that are gone through one by one: characters, commands, sequences of tokens and of scripts, short documents and pages.
 
 use crate::case::{Case, Operation, Rule};
 use crate::words::Words;
@@ -69,6 +69,45 @@ const TOKENS: [&str; 60] = [
 
 /// Further tokens that stand around each command.
 const MORE_TOKENS: [&str; 5] = ["\\quad", "\\langle", "\\tbinom", "\\\0", ":="];
+
+/// What has scripts: plain bases, what takes marks for itself, and commands whose operand has them.
+const BASES: [&str; 16] = [
+    "x",
+    "x'",
+    "{x}",
+    "{xy}",
+    "_",
+    "+",
+    "\\sum",
+    "\\int",
+    "\\lim",
+    "\\overbrace x",
+    "\\underbrace{x}",
+    "\\hat x",
+    "\\bm x",
+    "\\frac x",
+    "\\text{x}",
+    "\\middle|",
+];
+
+/// Behind a mark; where nothing stands, the next mark is the operand.
+const OPERANDS: [&str; 13] = [
+    "",
+    "a",
+    " a'",
+    "{a}",
+    "{a_b}",
+    "{",
+    "\\sum",
+    "\\int",
+    "\\lim ",
+    "\\sqrt a",
+    "\\underbrace a",
+    "\\bm a",
+    "\\middle a",
+];
+
+const ENDS: [&str; 6] = ["", "^", "_ {", "'", "}", "\\middle a"];
 
 /// Marks and bytes of short documents, all sequences of which are tried.
 const DOCUMENT: [&str; 6] = ["$", "$$", "x", "\\", "{", "}"];
@@ -173,6 +212,23 @@ pub fn command(words: &Words, index: u64) -> Option<Case> {
 pub fn tokens(index: u64) -> Option<Case> {
     let (length, at) = within(TOKENS.len() as u64, 4, index)?;
     Some(body(join(&sequence(&TOKENS, length, at)), index))
+}
+
+/// Every base with three marks and their operands, and every end.
+pub fn scripts(index: u64) -> Option<Case> {
+    let mut rest = index as usize;
+    let mut take = |list: &[&'static str]| {
+        let piece = list[rest % list.len()];
+        rest /= list.len();
+        piece
+    };
+    let mut text = take(&BASES).to_owned();
+    for _ in 0..3 {
+        text.push_str(take(&["_", "^"]));
+        text.push_str(take(&OPERANDS));
+    }
+    text.push_str(take(&ENDS));
+    (rest == 0).then(|| body(text, index))
 }
 
 /// All bytes, all pairs of bytes, and all sequences of four from the classes that UTF-8 tells apart.

@@ -418,10 +418,14 @@ pub fn sizes(random: &mut Random, words: &Words) -> Case {
     case
 }
 
-const OPENERS: [(&str, &str, usize); 19] = [
+/// What opens calls, what closes it, and about how many; the last two are rare, since most bodies with them are refused at once.
+const OPENERS: [(&str, &str, usize); 23] = [
     ("{", "}", 2),
-    ("x^", "", 1),
-    ("x_", "", 1),
+    ("x^{", "}", 2),
+    ("x_{", "}", 2),
+    ("x_a^{", "}", 2),
+    ("x_{", "}^b", 2),
+    ("x^\\bar ", "", 2),
     ("\\sqrt ", "", 2),
     ("\\sqrt[a]", "", 2),
     ("\\sqrt[", "]b", 2),
@@ -438,24 +442,29 @@ const OPENERS: [(&str, &str, usize); 19] = [
     ("\\mathbf ", "", 2),
     ("\\slashed{", "}", 2),
     ("\\middle ", "", 1),
+    ("x^", "", 1),
 ];
+const COMMON_OPENERS: usize = OPENERS.len() - 2;
 
 /// Openers with what closes them, mixed until about 256 calls are open.
 fn deep_text(random: &mut Random) -> String {
-    let usual = OPENERS[random.below(18)];
+    let usual = OPENERS[random.below(COMMON_OPENERS)];
     let wanted = 244 + random.below(24);
     let (mut text, mut closers, mut calls) = (String::new(), Vec::new(), 0);
     while calls < wanted {
         let (open, close, cost) = match random.below(8) {
-            0 => OPENERS[random.below(18)],
-            1 if random.one_in(400) => OPENERS[18],
+            0 => OPENERS[random.below(COMMON_OPENERS)],
+            1 if random.one_in(400) => OPENERS[COMMON_OPENERS + random.below(2)],
             _ => usual,
         };
         text.push_str(open);
         closers.push(close);
         calls += cost;
     }
-    text.push_str(random.of(&["a", "1", "+", "\\zz", "x'", "", "{"]));
+    let innermost = [
+        "a", "1", "+", "\\zz", "x'", "", "{", "x_a", "x_a^b", "x^{a}", "x_a_b",
+    ];
+    text.push_str(random.of(&innermost));
     while let Some(close) = closers.pop() {
         if !random.one_in(2_000) {
             text.push_str(close);

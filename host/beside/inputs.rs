@@ -1,4 +1,4 @@
-//! The inputs that the crate answers: every command, every character, every arm of the parser and the printer, and a sample of random ones.
+//! The inputs that the crate answers, or document 02's rule for scripts: every command, every character, every arm of the parser and the printer, and a sample of random ones.
 
 use crate::case::Case;
 use crate::random::Random;
@@ -100,8 +100,11 @@ const ARMS: &[&str] = &[
 /// What opens a level of calls and what closes it, with the most levels that the limit of calls allows.
 pub const LEVELS: &[(&str, &str, usize)] = &[
     ("{", "}", 127),
-    ("x^", "", 254),
-    ("x_", "", 254),
+    ("x^{", "}", 127),
+    ("x_{", "}", 127),
+    ("x_a^{", "}", 127),
+    ("x^{", "}_a", 127),
+    ("x^\\bar ", "", 127),
     ("\\sqrt ", "", 127),
     ("\\sqrt[", "]b", 127),
     ("\\sqrt[a]", "", 127),

@@ -29,13 +29,23 @@ fn answer(call: impl FnOnce() -> Result<String, LatexError> + std::panic::Unwind
     }
 }
 
-pub fn translate(latex: &str, block: bool) -> Answer {
-    let display = if block {
+fn style(block: bool) -> DisplayStyle {
+    if block {
         DisplayStyle::Block
     } else {
         DisplayStyle::Inline
-    };
-    answer(|| latex2mathml::latex_to_mathml(latex, display))
+    }
+}
+
+pub fn translate(latex: &str, block: bool) -> Answer {
+    answer(|| latex2mathml::latex_to_mathml(latex, style(block)))
+}
+
+/// Markup in the wrapper that the crate has for it.
+pub fn wrapped(markup: &str, block: bool) -> String {
+    let display = style(block);
+    let open = r#"<math xmlns="http://www.w3.org/1998/Math/MathML" display="#;
+    format!("{open}\"{display}\">{markup}</math>")
 }
 
 pub fn replace(document: &str) -> Answer {

@@ -1,9 +1,10 @@
-//! The expected answers: the crate's where it decides, and document 01's order of refusals around them.
+//! The expected answers: the crate's where it decides, the model's where document 02 does, and document 01's order of refusals around them.
 
 use crate::case::{Lent, Operation};
 use crate::compare::shown;
+use crate::model::{self, Reading};
+use crate::oracle::{self, Answer};
 use crate::paragraphs::pieces;
-use crate::{depth, oracle};
 use std::collections::HashMap;
 use std::rc::Rc;
 
@@ -37,8 +38,8 @@ impl Expected {
 }
 
 struct Body {
-    answer: oracle::Answer,
-    /// Whether document 01 and not the crate decides the answer.
+    answer: Answer,
+    /// Whether a document and not the crate decides the answer.
     ours: bool,
 }
 
@@ -54,6 +55,9 @@ pub struct Reckoner {
     pub undone: u64,
     /// Documents and paragraphs that the crate's own `replace` confirmed.
     pub confirmed: u64,
+    /// Bodies that document 02 takes out of the comparison with the crate, and how many of them are accepted.
+    pub left: u64,
+    pub left_accepted: u64,
 }
 
 /// Undoes the one escape that document 01 leaves out: a character of 128 or above as the name of an unknown command.
@@ -115,36 +119,39 @@ impl Reckoner {
         }
     }
 
+    /// The model's answer where a document decides, the crate's for every other body.
     fn ask(&mut self, latex: &str, block: bool) -> Body {
-        let counted = depth::number(latex);
-        if counted == 10 {
-            return Body {
-                answer: Err(10),
-                ours: true,
-            };
+        let reading = model::read(latex);
+        let ours = reading.leaves || reading.number() == 10;
+        self.left += u64::from(reading.leaves);
+        self.left_accepted += u64::from(reading.leaves && reading.number() == 0);
+        let answer = if ours {
+            reading.answer(block)
+        } else {
+            self.held(latex, block, &reading)
+        };
+        let Ok(markup) = answer else {
+            return Body { answer, ours };
+        };
+        let text = undo_escapes(&markup);
+        let changed = text != markup;
+        self.undone += u64::from(changed);
+        Body {
+            answer: Ok(text),
+            ours: ours || changed,
         }
+    }
+
+    /// The crate's answer, to which the model's is held.
+    fn held(&mut self, latex: &str, block: bool, reading: &Reading) -> Answer {
         let answer = oracle::translate(latex, block);
-        let number = answer.as_ref().err().copied().unwrap_or(0);
-        if number != counted {
-            let body = latex.escape_debug();
-            let fault = format!("body \"{body}\": counted {counted}, the crate {number}");
+        if reading.answer(block) != answer {
+            let (body, read) = (latex.escape_debug(), reading.number());
+            let number = answer.as_ref().err().unwrap_or(&0);
+            let fault = format!("body \"{body}\": read with {read}, the crate {number}");
             self.faults.push(fault);
         }
-        match answer {
-            Ok(markup) => {
-                let text = undo_escapes(&markup);
-                let ours = text != markup;
-                self.undone += u64::from(ours);
-                Body {
-                    answer: Ok(text),
-                    ours,
-                }
-            }
-            Err(_) => Body {
-                answer,
-                ours: false,
-            },
-        }
+        answer
     }
 
     /// A body that is well formed: 1, 3, then the parser's refusals.

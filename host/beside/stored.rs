@@ -18,6 +18,14 @@ pub enum Ask {
     Page,
 }
 
+/// Where an answer comes from.
+#[derive(Clone, Copy, Debug, PartialEq, Eq, PartialOrd, Ord)]
+pub enum Source {
+    Crate,
+    Document01,
+    Document02,
+}
+
 /// The lengths that are lent, where they are not the program's own.
 #[derive(Clone, Copy, Debug, Default, PartialEq, Eq, Hash)]
 pub struct Lent {
@@ -38,8 +46,7 @@ pub struct Stored {
     pub work: Vec<u8>,
     pub paragraphs: usize,
     pub left: usize,
-    /// Whether the answer is written from document 01.
-    pub from_scope: bool,
+    pub source: Source,
 }
 
 impl Stored {
@@ -53,8 +60,41 @@ impl Stored {
             work: Vec::new(),
             paragraphs: 0,
             left: 0,
-            from_scope: false,
+            source: Source::Crate,
         }
+    }
+
+    pub fn gives(self, output: impl AsRef<[u8]>) -> Stored {
+        let output = output.as_ref().to_vec();
+        Stored { output, ..self }
+    }
+
+    pub fn between(self, work: impl AsRef<[u8]>) -> Stored {
+        let work = work.as_ref().to_vec();
+        Stored { work, ..self }
+    }
+
+    pub fn counts(self, paragraphs: usize, left: usize) -> Stored {
+        Stored {
+            paragraphs,
+            left,
+            ..self
+        }
+    }
+
+    pub fn store(mut self, length: usize) -> Stored {
+        self.lent.store = Some(length);
+        self
+    }
+
+    pub fn work(mut self, length: usize) -> Stored {
+        self.lent.work = Some(length);
+        self
+    }
+
+    pub fn output(mut self, length: usize) -> Stored {
+        self.lent.output = Some(length);
+        self
     }
 
     fn head(&self) -> String {
@@ -65,9 +105,11 @@ impl Stored {
             Ask::Document => "D",
             Ask::Page => "P",
         });
-        if self.from_scope {
-            head.push('!');
-        }
+        head.push_str(match self.source {
+            Source::Crate => "",
+            Source::Document01 => "!",
+            Source::Document02 => "!2",
+        });
         let lent = [
             ('s', self.lent.store),
             ('w', self.lent.work),

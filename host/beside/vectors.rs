@@ -1,16 +1,18 @@
-//! Writes the stored list of crates/vectors to standard output, from the unchanged crate and from document 01.
+//! Writes the stored list of crates/vectors to standard output, from the unchanged crate and from documents 01 and 02.
 //!
 //! Argument: the crate's sources. The port has no part in it, so no expected answer comes from the code under test.
 
+mod answers;
 #[allow(dead_code)]
 mod case;
-mod crate_answers;
 mod document01;
+mod document02;
 #[allow(dead_code)]
 mod fixed;
 #[allow(dead_code)]
 mod generate;
 mod inputs;
+mod model;
 mod oracle;
 mod paragraphs;
 mod random;
@@ -40,20 +42,23 @@ fn lines(cases: Vec<Stored>) -> Vec<u8> {
     lines
 }
 
-/// Where the crate decides as well, it must give what is written from document 01; it has no limits, so nothing lent and no 1 or 10.
+/// Where the crate or the model decides as well, it must give what is written by hand; neither has a length, nor what is lent.
 fn agree(case: &Stored) -> bool {
     let Ok(text) = std::str::from_utf8(&case.input) else {
         return true;
     };
-    if case.lent != Lent::default() || matches!(case.number, 1 | 10) {
+    if case.lent != Lent::default() || case.number == 1 {
         return true;
     }
-    let crate_case = match case.ask {
-        Ask::Both => crate_answers::body(text),
-        Ask::Document => crate_answers::document(text),
+    if case.ask == Ask::Both && case.number == 10 {
+        return model::read(text).number() == 10;
+    }
+    let made = match case.ask {
+        Ask::Both => answers::body(text),
+        Ask::Document => answers::document(text),
         _ => None,
     };
-    crate_case.map_or(true, |answer| {
+    made.map_or(true, |answer| {
         (answer.number, answer.output, answer.work)
             == (case.number, case.output.clone(), case.work.clone())
     })
@@ -66,11 +71,12 @@ fn write_list() -> Result<(), String> {
     let words = Words::read(Path::new(&sources)).map_err(|error| error.to_string())?;
     oracle::silence_panics();
     let mut cases = document01::cases();
+    cases.extend(document02::cases());
     if let Some(case) = cases.iter().find(|case| !agree(case)) {
-        return Err(format!("document 01 and the crate disagree: {case:?}"));
+        return Err(format!("what is written by hand is not made: {case:?}"));
     }
-    cases.extend(inputs::bodies(&words).filter_map(|latex| crate_answers::body(&latex)));
-    cases.extend(inputs::documents(&words).filter_map(|text| crate_answers::document(&text)));
+    cases.extend(inputs::bodies(&words).filter_map(|latex| answers::body(&latex)));
+    cases.extend(inputs::documents(&words).filter_map(|text| answers::document(&text)));
     cases.extend(inputs::pages(&words).filter_map(|text| document01::page(&text)));
     let mut out = std::io::stdout().lock();
     out.write_all(&lines(cases))

@@ -134,7 +134,7 @@ mod tests {
     fn an_answer_that_no_archive_may_give_is_a_refusal() {
         assert_eq!(answered(0, 4, b"abc"), Err(Refusal::Unknown(0)));
         assert_eq!(answered(0, u64::MAX, b"abc"), Err(Refusal::Unknown(0)));
-        assert_eq!(answered(13, 2, b"abc"), Err(Refusal::Unknown(13)));
+        assert_eq!(answered(99, 2, b"abc"), Err(Refusal::Unknown(99)));
     }
 
     #[test]

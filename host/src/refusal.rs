@@ -1,4 +1,4 @@
-//! The refusals of document 01, by number, name and a sentence for whoever typed the page.
+//! The refusals of documents 01 and 02, by number, name and a sentence for whoever typed the page.
 
 use std::fmt;
 
@@ -29,13 +29,15 @@ pub enum Refusal {
     WorkTooSmall,
     /// 12: the result is longer than the output
     OutputTooSmall,
-    /// An answer that document 01 does not have, which only another version of the archive can give.
+    /// 13: a mark repeated on one base
+    RepeatedMark,
+    /// An answer that the documents do not have, which only another version of the archive can give.
     Unknown(u32),
 }
 
 impl Refusal {
-    /// The twelve of document 01, in the order of their numbers.
-    pub const ALL: [Refusal; 12] = [
+    /// All of them, in the order of their numbers.
+    pub const ALL: [Refusal; 13] = [
         Refusal::TooLong,
         Refusal::IllFormed,
         Refusal::StoreTooSmall,
@@ -48,6 +50,7 @@ impl Refusal {
         Refusal::TooDeep,
         Refusal::WorkTooSmall,
         Refusal::OutputTooSmall,
+        Refusal::RepeatedMark,
     ];
 
     /// The refusal that a number stands for; 0 stands for none.
@@ -58,7 +61,7 @@ impl Refusal {
             .unwrap_or(Refusal::Unknown(number))
     }
 
-    /// Document 01's number.
+    /// Its number in the documents.
     pub fn number(self) -> u32 {
         match self {
             Refusal::TooLong => 1,
@@ -73,6 +76,7 @@ impl Refusal {
             Refusal::TooDeep => 10,
             Refusal::WorkTooSmall => 11,
             Refusal::OutputTooSmall => 12,
+            Refusal::RepeatedMark => 13,
             Refusal::Unknown(number) => number,
         }
     }
@@ -92,6 +96,7 @@ impl Refusal {
             Refusal::TooDeep => "TooDeep",
             Refusal::WorkTooSmall => "WorkTooSmall",
             Refusal::OutputTooSmall => "OutputTooSmall",
+            Refusal::RepeatedMark => "RepeatedMark",
             Refusal::Unknown(_) => "Unknown",
         }
     }
@@ -111,6 +116,7 @@ impl Refusal {
             Refusal::TooDeep => "Too many parts stand inside one another: take some out, or split the formula.",
             Refusal::WorkTooSmall => "The formulas between double dollars come out too long together: split the paragraph.",
             Refusal::OutputTooSmall => "What comes out is longer than the memory that is set aside for it: make the text shorter.",
+            Refusal::RepeatedMark => "Two `_`, or two `^`, stand on the same sign: put braces around what belongs together, as in `x_{a_b}`.",
             Refusal::Unknown(_) => "The archive gave an answer that is not known here: build it and this program from the same sources.",
         }
     }
@@ -126,6 +132,7 @@ impl Refusal {
                 | Refusal::UnknownEnvironment
                 | Refusal::MiddleOperand
                 | Refusal::TooDeep
+                | Refusal::RepeatedMark
         )
     }
 }
@@ -143,29 +150,30 @@ mod tests {
     use super::*;
 
     #[test]
-    fn the_numbers_are_one_to_twelve() {
+    fn the_numbers_have_no_gap() {
         let numbers: Vec<u32> = Refusal::ALL.iter().map(|r| r.number()).collect();
-        assert_eq!(numbers, [1, 2, 3, 4, 5, 6, 7, 8, 9, 10, 11, 12]);
+        assert_eq!(numbers, [1, 2, 3, 4, 5, 6, 7, 8, 9, 10, 11, 12, 13]);
         assert_eq!(Refusal::from_number(4), Refusal::InvalidNumberOfDollarSigns);
         assert_eq!(Refusal::from_number(12), Refusal::OutputTooSmall);
+        assert_eq!(Refusal::from_number(13), Refusal::RepeatedMark);
     }
 
     #[test]
     fn other_numbers_are_unknown() {
-        for number in [0, 13, u32::MAX] {
+        for number in [0, 14, u32::MAX] {
             assert_eq!(Refusal::from_number(number), Refusal::Unknown(number));
             assert_eq!(Refusal::Unknown(number).number(), number);
         }
     }
 
     #[test]
-    fn a_formula_can_be_named_for_seven() {
+    fn a_formula_can_be_named_for_these() {
         let numbers: Vec<u32> = Refusal::ALL
             .into_iter()
             .filter(|r| r.is_of_a_body())
             .map(Refusal::number)
             .collect();
-        assert_eq!(numbers, [1, 3, 6, 7, 8, 9, 10]);
+        assert_eq!(numbers, [1, 3, 6, 7, 8, 9, 10, 13]);
     }
 
     #[test]

@@ -1,5 +1,5 @@
 //! The three operations at their limits: every number, every buffer afterwards, every line of document 01's list. The
-//! expected values are written by hand from document 01.
+//! expected values are written by hand from documents 01 and 02.
 
 mod lent;
 
@@ -51,10 +51,11 @@ fn parsing() -> Vec<(u32, String)> {
         (8, r"\begin{q}a\end{q}".into()),
         (9, r"\middle a".into()),
         (10, braces(128)),
+        (13, "x_a_b".into()),
     ]
 }
 
-// ---- the list of document 01
+// ---- the list of document 01, with what document 02 changes of it
 
 #[test]
 fn the_lines_of_document_01() {
@@ -65,7 +66,7 @@ fn the_lines_of_document_01() {
             r"\frac 123",
             r#"<mfrac><mn>123</mn><mtext>[PARSE ERROR: Undefined("EOF")]</mtext></mfrac>"#,
         ),
-        ("x_a^b", "<msub><mi>x</mi><msup><mi>a</mi><mi>b</mi></msup></msub>"),
+        ("x_a^b", "<msubsup><mi>x</mi><mi>a</mi><mi>b</mi></msubsup>"),
         ("a''", "<msup><mi>a</mi><mo>′</mo></msup><mo>'</mo>"),
         (r"\sum^n", r#"<mover><mi>n</mi><mo accent="false">∑</mo></mover>"#),
         (
@@ -114,11 +115,8 @@ fn the_depth_lines_of_document_01() {
         Ok(&block("<mi>a</mi>")),
     );
     body(braces(128).as_bytes(), Block, AMPLE, Err(10));
-    let open = "<msup><mi>x</mi>".repeat(254);
-    let close = "</msup>".repeat(254);
-    let markup = inline(&[&open, "<mi>x</mi>", &close].concat());
-    body(powers(254).as_bytes(), Inline, AMPLE, Ok(&markup));
-    body(powers(255).as_bytes(), Inline, AMPLE, Err(10));
+    body(powers(254).as_bytes(), Inline, AMPLE, Err(13));
+    body(powers(255).as_bytes(), Inline, AMPLE, Err(13));
 }
 
 #[test]
@@ -176,7 +174,7 @@ fn body_3_a_store_one_byte_short() {
 }
 
 #[test]
-fn body_6_to_10_while_parsing() {
+fn body_each_number_of_parsing() {
     for (number, latex) in parsing() {
         body(latex.as_bytes(), Block, AMPLE, Err(number));
         body(latex.as_bytes(), Inline, output(0), Err(number));
@@ -191,6 +189,54 @@ fn body_the_first_met_while_parsing() {
     body(br"\middle{", Block, AMPLE, Err(6));
     body(br"\middle a{", Block, AMPLE, Err(9));
     body(br"\left a\middle a", Block, AMPLE, Err(7));
+}
+
+/// Document 02, §1: both scripts on one base.
+#[test]
+fn body_both_scripts_on_one_base() {
+    let both = block("<msubsup><mi>x</mi><mi>a</mi><mi>b</mi></msubsup>");
+    for latex in ["x_a^b", "x^b_a", "x _ a ^ b", "{x}_{a}^{b}"] {
+        body(latex.as_bytes(), Block, AMPLE, Ok(&both));
+    }
+    body(b"x_a^b", Block, store(240), Ok(&both));
+    let primed = block("<msubsup><msup><mi>x</mi><mo>′</mo></msup><mi>a</mi><mi>b</mi></msubsup>");
+    body(b"x'_a^b", Block, AMPLE, Ok(&primed));
+    let over =
+        block("<msub><munderover><mo>∑</mo><mi>a</mi><mi>b</mi></munderover><mi>c</mi></msub>");
+    body(br"\sum_a^b_c", Block, AMPLE, Ok(&over));
+    let limit = block("<msubsup><mi>lim</mi><mi>b</mi><mi>a</mi></msubsup>");
+    body(br"\lim^a_b", Block, AMPLE, Ok(&limit));
+}
+
+/// Document 02, §1: a repeated mark is met before its own operand, and behind what the operand before it refuses.
+#[test]
+fn body_13_when_met() {
+    for latex in [
+        "x_a_",
+        "x_a_{",
+        r"x_a_\middle b",
+        "x_a^b_c",
+        "x^a'^b",
+        "x___a",
+    ] {
+        body(latex.as_bytes(), Block, AMPLE, Err(13));
+    }
+    for latex in [r"\sum_a_b_c", r"x_\sum_a_b", r"\hat x_a_b", "{x_a_b"] {
+        body(latex.as_bytes(), Block, AMPLE, Err(13));
+    }
+    body(br"x_\middle a_b", Block, AMPLE, Err(9));
+    body(b"x_a^{", Block, AMPLE, Err(6));
+    body(b"x_a_b", Block, store(239), Err(3));
+}
+
+/// Document 02, §1: the operand of a script is one call, so the innermost pair of braces may hold one.
+#[test]
+fn body_10_behind_a_script() {
+    let within = |latex: &str, pairs| braces(pairs).replace('a', latex);
+    let markup = block("<msub><mi>x</mi><mi>y</mi></msub>");
+    body(within("x_y", 127).as_bytes(), Block, AMPLE, Ok(&markup));
+    body(within("x_{y}", 127).as_bytes(), Block, AMPLE, Err(10));
+    body(within("x_y_z", 127).as_bytes(), Block, AMPLE, Err(13));
 }
 
 #[test]
@@ -275,7 +321,7 @@ fn replacement_5_before_every_body() {
 }
 
 #[test]
-fn replacement_6_to_10_in_each_pass() {
+fn replacement_each_number_of_parsing_in_each_pass() {
     for (number, latex) in parsing() {
         let double = ["a$$", &latex, "$$"].concat();
         replacement(double.as_bytes(), AMPLE, Err(number), None);
@@ -398,7 +444,7 @@ fn page_leaves_a_paragraph_refused_by_any_number_but_12() {
     }
     met.sort_unstable();
     met.dedup();
-    assert_eq!(met, [1, 2, 3, 4, 5, 6, 7, 8, 9, 10, 11]);
+    assert_eq!(met, [1, 2, 3, 4, 5, 6, 7, 8, 9, 10, 11, 13]);
 }
 
 #[test]

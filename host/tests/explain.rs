@@ -40,6 +40,7 @@ const TEN: &str =
     "    10 TooDeep: Too many parts stand inside one another: take some out, or split the formula.";
 const ELEVEN: &str = "    11 WorkTooSmall: The formulas between double dollars come out too long together: split the paragraph.";
 const TWELVE: &str = "    12 OutputTooSmall: What comes out is longer than the memory that is set aside for it: make the text shorter.";
+const THIRTEEN: &str = "    13 RepeatedMark: Two `_`, or two `^`, stand on the same sign: put braces around what belongs together, as in `x_{a_b}`.";
 
 #[test]
 fn nothing_stays_as_typed() {
@@ -200,6 +201,17 @@ fn a_formula_too_deep() {
     assert_eq!(explain(page.as_bytes()), want);
 }
 
+#[test]
+fn a_mark_repeated_on_one_base() {
+    let want = lines(&[
+        "Paragraph 2, line 3, stays as typed.",
+        THIRTEEN,
+        "    Formula 2 between single dollars: p_u_2",
+        "1 of 2 paragraphs stays as typed.",
+    ]);
+    assert_eq!(explain(b"$p_u^2$\n\n$p_u$ and $p_u_2$"), want);
+}
+
 /// A closing brace alone prints 49 bytes, so two formulas of 1,000 are too long for the work buffer together.
 #[test]
 fn no_formula_is_named_where_none_is_refused_first() {
@@ -254,6 +266,7 @@ fn what_the_sentences_advise_is_accepted() {
         r"\left\{a\right.",
         r"\left(a\middle|b\right)",
         r"\middle+",
+        "x_{a_b}",
     ];
     for latex in others.into_iter().map(String::from).chain(names) {
         let (mut store, mut output) = (vec![0; 48 * latex.len()], vec![0; 1_024]);
@@ -268,7 +281,7 @@ fn what_the_sentences_advise_is_accepted() {
 }
 
 /// Pieces of which documents are made: dollars of every kind, and bodies that are accepted and refused.
-const PIECES: [&str; 14] = [
+const PIECES: [&str; 15] = [
     "$",
     "$",
     "$$",
@@ -282,6 +295,7 @@ const PIECES: [&str; 14] = [
     r"\left(",
     r"\right)",
     "^",
+    "_",
     r"\begin{q}",
 ];
 

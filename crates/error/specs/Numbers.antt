@@ -16,6 +16,7 @@ use Rattle.error.specs.declared.Refusal.the-variants.{
   TooDeep,
   WorkTooSmall,
   OutputTooSmall,
+  RepeatedMark,
 }
 
 unfoldable pub number : Refusal → ℕ
@@ -31,3 +32,4 @@ number MiddleOperand = 9
 number TooDeep = 10
 number WorkTooSmall = 11
 number OutputTooSmall = 12
+number RepeatedMark = 13

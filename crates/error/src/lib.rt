@@ -13,4 +13,5 @@ pub enum Refusal {
     TooDeep,
     WorkTooSmall,
     OutputTooSmall,
+    RepeatedMark,
 }

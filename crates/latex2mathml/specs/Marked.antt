@@ -39,7 +39,7 @@ lines =
     emptyBody DisplayStyle.Inline 73 ∷
     body "\\frac123" "<mfrac><mn>1</mn><mn>23</mn></mfrac>" ∷
     body "\\frac 123" "<mfrac><mn>123</mn><mtext>[PARSE ERROR: Undefined(\"EOF\")]</mtext></mfrac>" ∷
-    body "x_a^b" "<msub><mi>x</mi><msup><mi>a</mi><mi>b</mi></msup></msub>" ∷
+    body "x_a^b" "<msubsup><mi>x</mi><mi>a</mi><mi>b</mi></msubsup>" ∷
     body "a''" "<msup><mi>a</mi><mo>′</mo></msup><mo>'</mo>" ∷
     body "\\sum^n" "<mover><mi>n</mi><mo accent=\"false\">∑</mo></mover>" ∷
     body "\\" "<mtext>[PARSE ERROR: Undefined(\"Command(\\\"\\\\0\\\")\")]</mtext>" ∷

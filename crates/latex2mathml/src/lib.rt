@@ -30,5 +30,6 @@ pub fn number(r: Refusal) -> u32
         Refusal::TooDeep => 10,
         Refusal::WorkTooSmall => 11,
         Refusal::OutputTooSmall => 12,
+        Refusal::RepeatedMark => 13,
     }
 }

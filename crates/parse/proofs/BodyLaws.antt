@@ -56,7 +56,7 @@ BodyLoop depth tab s st₀ st q first last n = Loops tab s (λ k p ns. nodesUpTo
 pub body-none : (depth : ℕ) (tab s st : List ℕ) (q : Parser) → tab ≡ rows → length s ≤ 4096 → 2 * length s * 24 ≤ length st → q ≡ new s → BodyLoop depth tab s st st q 0 0 0
 body-none depth tab s st q table short lent is =
     let none-made = new-made s in
-    let start : Starts tab s st (2 * length s) (new s) 0 = record { sound = new-sound s; room = omega arith; lent = lent; small = omega arith; long = omega arith; table = table } in
+    let start : Starts tab s st (new s) 0 = record { sound = new-sound s; cap = 2 * length s; room = omega arith; lent = lent; small = omega arith; long = omega arith; table = table } in
     rw is (loops-none start)
 
 module _ {tab : List ℕ} (depth : ℕ) (s : List ℕ) {st₀ st : List ℕ} {q : Parser} {first last n : ℕ} (g : BodyLoop depth tab s st₀ st q first last n) where

@@ -18,8 +18,8 @@ use Rattle.parser.specs.declared.Parser.{Parser}
 use Rattle.parser.specs.State.{peekIs}
 use Rattle.parser.specs.Parse.{Reads, _>>=_, build, parseBare, nodeStep, parseNode, parseSingleNode}
 use Rattle.parser.specs.Sound.{TokenInside}
-use Rattle.parser.specs.Marks.{leafOf, isDefined, isPutOn, standsAlone}
-use Rattle.parse.proofs.WayLaws.{node-more, single-more, bare-is, prime-none}
+use Rattle.parser.specs.Marks.{leafOf, isDefined, isPutOn, standsAlone, scriptOf}
+use Rattle.parse.proofs.WayLaws.{node-more, node-is, scripts-none, single-more, bare-is, prime-none}
 
 -- the places, among the enum's variants, of the tokens that have no operand
 abbrev pub single-tokens : List ℕ
@@ -97,13 +97,14 @@ unmarked p e = none-of (peekIs p Mark.Prime) (peekIs p Mark.Underscore) (peekIs 
 
 -- a token that stands alone is its leaf
 pub alone-is : (d : ℕ) (s : List ℕ) (p : Parser) → 2 ≤ d → standsAlone (p .cur .token) (p .peek .token) ≡ true → parseNode d s p ≡ build 1 (leaf (leafOf (p .cur .token))) p
-unfolding standsAlone nodeStep _>>=_ build
+unfolding standsAlone nodeStep _>>=_ build scriptOf
 alone-is d s p le e =
     let h = first-only (isDefined (leafOf (p .cur .token))) (isPutOn (p .peek .token)) e in
     let m = unmarked p (h .1) in
     let bare = bare-is (λ q. parseNode (d - 1 - 1) s q) (λ q. parseSingleNode (d - 1 - 1) s q) s p (bare-defined _ _ s (p .cur .token) p (h .0)) in
     let single = single-more (d - 1) s p (λ z. omega arith) ∙ bare ∙ prime-none s _ _ (m .0) in
-    node-more d s p le ∙ rw (nodeStep, single, _>>=_, m .1, m .2)
+    let all : Reads = λ q. parseSingleNode (d - 1) s q in
+    node-more d s p le ∙ node-is all s p single ∙ scripts-none all s _ (rw (scriptOf, m .1, m .2)) _
 
 -- the places that such a leaf carries fit four bytes
 pub leaf-placed : (n : ℕ) (t : Token) → n < 2 ^ 32 → TokenInside n t → Placed (leafOf t)

@@ -18,10 +18,10 @@ use Rattle.parser.specs.declared.Parser.{Parser}
 use Rattle.parser.specs.State.{next, curIs}
 use Rattle.parser.specs.Parse.{Parsed, made, Reads}
 use Rattle.parser.specs.Sound.{Sound, Keeps}
-use Rattle.parser.specs.Built.{Free, Ready, Built}
+use Rattle.parser.specs.Built.{Free, Ready, Ends, Built}
 use Rattle.parser.proofs.MoveLaws.{other-byte}
 use Rattle.parser.proofs.BodyLaws.{enough-behind}
-use Rattle.parse.proofs.RoomLaws.{Starts, Ends, wide-ready, wide-ends, ends-next}
+use Rattle.parse.proofs.RoomLaws.{Starts, wide-ready, wide-ends, ends-next}
 use Rattle.parse.proofs.SeqLaws.{Stay}
 
 -- each node has a record of its own
@@ -60,10 +60,9 @@ pub record Loops {A : Type 0} (tab s : List ℕ) (rest : Rest A) (q₀ : Parser)
   pub ns : Nodes
   pub before : ℕ
   pub fuel : ℕ
-  pub cap : ℕ
   pub is : rest (suc (length s)) q₀ empty ≡ rest fuel q ns
   pub enough : length s < q .cur .start + fuel
-  pub spare : Starts tab s st cap q 0
+  pub spare : Starts tab s st q 0
   pub held : holdsAll st (q₀ .made) first before last (q .made) ns
   pub many : n ≡ count ns
   pub small : first < 65536
@@ -71,13 +70,12 @@ pub record Loops {A : Type 0} (tab s : List ℕ) (rest : Rest A) (q₀ : Parser)
   pub kept : Stay st₀ st q₀
 
 -- before the first node
-pub loops-none : {A : Type 0} {tab s : List ℕ} {rest : Rest A} {q₀ : Parser} {st : List ℕ} {cap : ℕ} → Starts tab s st cap q₀ 0 → Loops tab s rest q₀ st st q₀ 0 0 0
+pub loops-none : {A : Type 0} {tab s : List ℕ} {rest : Rest A} {q₀ : Parser} {st : List ℕ} → Starts tab s st q₀ 0 → Loops tab s rest q₀ st st q₀ 0 0 0
 unfolding count
-loops-none {A} {tab} {s} {rest} {q₀} {st} {cap} h = record {
+loops-none {A} {tab} {s} {rest} {q₀} {st} h = record {
   ns = empty;
   before = 0;
   fuel = suc (length s);
-  cap = cap;
   is = refl;
   enough = omega arith;
   spare = h;
@@ -117,7 +115,7 @@ module _ {A : Type 0} {tab s : List ℕ} {rest : Rest A} {q₀ : Parser} {st₀ 
 
   -- ---- one node more
   module _ {node : Reads} (keeps : Keeps s node) (e : curIs q Mark.EOF ≡ false) {st₁ : List ℕ} (len : length st₁ ≡ length st) {i : ℕ} {r : Parser} (b : Built st st₁ (q .made) q (node q) i r) where
-    pub more-ends : Ends tab s st₁ (g .cap) r 0
+    pub more-ends : Ends tab s st₁ r 0
     more-ends = wide-ends len (g .spare) (loops-wide e) keeps b
 
     more-low : q .made ≤ i
@@ -157,13 +155,12 @@ module _ {A : Type 0} {tab s : List ℕ} {rest : Rest A} {q₀ : Parser} {st₀ 
         let old : holdsAll st₁ (q₀ .made) first (g .before) last (q .made) (g .ns) = frame-all st st₁ (q₀ .made) first (g .before) last (q .made) (g .ns) (λ j x y. b .kept j y) (g .held) in
         let new : holdsAll st₂ (q₀ .made) first′ (g .before) i (r .made) (snoc (g .ns) (b .tree)) = ap₂ .linked (q₀ .made) (g .before) (q .made) (r .made) (g .ns) (b .tree) old (g .many) (b .held) d in
         let below = snoc-below st₂ (q₀ .made) first′ (g .before) i (r .made) (g .ns) (b .tree) new in
-        let start : Starts tab s st₂ (g .cap) (next s r) 0 = ends-next (record { sound = h .sound; room = h .room; lent = omega arith; small = h .small; long = h .long; table = h .table }) refl in
+        let start : Starts tab s st₂ (next s r) 0 = ends-next (record { sound = h .sound; cap = h .cap; room = h .room; lent = omega arith; small = h .small; long = h .long; table = h .table }) refl in
         rw step
         (record {
           ns = snoc (g .ns) (b .tree);
           before = g .before;
           fuel = g .fuel - 1;
-          cap = g .cap;
           is = g .is ∙ turn;
           enough = enough-after (g .fuel) (g .enough);
           spare = start;

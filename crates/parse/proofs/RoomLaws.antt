@@ -1,7 +1,7 @@
 -- The records lent suffice all along: each token that is passed leaves two for each of its bytes.
 -- Assumes nothing.
 use mathlib.Core.Path.{_≡_, refl, sym, _∙_, ap}
-use mathlib.Core.Bool.{true, false}
+use mathlib.Core.Bool.{Bool, true, false}
 use mathlib.Core.List.{List}
 use Prim.Native.Nat.{ℕ, zero, suc, _+_, _*_, _^_, _≤_, _<_}
 use native.Mathlib.Omega.{arith}
@@ -13,99 +13,93 @@ use Rattle.token.specs.Key.{rows}
 use Rattle.token.specs.Roles.{markNumber, tokenIs, letterOf}
 use Rattle.ast.specs.Tree.{Node}
 use Rattle.parser.specs.declared.Parser.{Parser}
+use Rattle.parser.specs.declared.Script.{Script}
 use Rattle.parser.specs.declared.TextRead.{TextRead}
 use Rattle.parser.specs.State.{next, peekIs, pastLetters, parseText}
 use Rattle.parser.specs.Parse.{Reads, made, parseGroup, parseBare, parseNode, parseSingleNode}
 use Rattle.parser.specs.Sound.{least, Sound, idle, Keeps}
-use Rattle.parser.specs.Built.{Built, Free, Ready, Primed}
+use Rattle.parser.specs.Marks.{scriptOf}
+use Rattle.parser.specs.Built.{Built, Free, Spare, Ready, Ends, Primed}
 use Rattle.parser.proofs.MoveLaws.{by-letter, mark-byte, next-sound, text-sound, idle-le, idle-none}
 use Rattle.parser.proofs.KeepLaws.{group-kept}
 use Rattle.parser.proofs.ArmLaws.{bare-kept}
-use Rattle.parser.proofs.BodyLaws.{node-keeps, single-keeps}
+use Rattle.parser.proofs.BodyLaws.{script-byte, node-keeps, single-keeps}
 
--- of `cap` records that are lent, k more than two for each byte from `at` on are left in the state p
-pub record Spare (tab s st : List ℕ) (cap : ℕ) (p : Parser) (at k : ℕ) : Type 0 where
-  pub table : tab ≡ rows
-  pub sound : Sound s p
-  pub room : p .made + 2 * length s + k ≤ cap + 2 * at
-  pub lent : cap * 24 ≤ length st
-  pub small : cap ≤ 65536
-  pub long : length s < 2 ^ 32
-
--- .. before the current token, and behind it
-abbrev pub Starts : List ℕ → List ℕ → List ℕ → ℕ → Parser → ℕ → Type 0
-Starts tab s st cap p k = Spare tab s st cap p (p .cur .start) k
-
-abbrev pub Ends : List ℕ → List ℕ → List ℕ → ℕ → Parser → ℕ → Type 0
-Ends tab s st cap p k = Spare tab s st cap p (p .cur .end) k
+-- so many records to spare before the current token
+abbrev pub Starts : List ℕ → List ℕ → List ℕ → Parser → ℕ → Type 0
+Starts tab s st p k = Spare tab s st p (p .cur .start) k
 
 -- what `next_token` asks
-pub may-next : {tab s st : List ℕ} {cap at k : ℕ} {p : Parser} → Spare tab s st cap p at k → (p .peek .end ≤ length s) × (tab ≡ rows)
+pub may-next : {tab s st : List ℕ} {at k : ℕ} {p : Parser} → Spare tab s st p at k → (p .peek .end ≤ length s) × (tab ≡ rows)
 may-next h = (h .sound .peek .inside, h .table)
-
-pub ready-next : {tab s st : List ℕ} {p : Parser} → Ready tab s st p → (p .peek .end ≤ length s) × (tab ≡ rows)
-ready-next r = (r .sound .peek .inside, r .table)
 
 module _ {tab s st : List ℕ} where
   -- one record to spare is enough for a node that is missing
-  pub starts-ready : {cap k : ℕ} {p : Parser} → Starts tab s st cap p k → 1 ≤ k → Ready tab s st p
-  starts-ready {cap} {k} {p} h le =
+  pub starts-ready : {k : ℕ} {p : Parser} → Starts tab s st p k → 1 ≤ k → Ready tab s st p
+  starts-ready {k} {p} h le =
       let i = idle-le (p .cur) in
-      record { sound = h .sound; cap = cap; room = omega (arith, h .room); lent = h .lent; small = h .small; long = h .long; table = h .table }
+      record { sound = h .sound; cap = h .cap; room = omega (arith, h .room); lent = h .lent; small = h .small; long = h .long; table = h .table }
 
   -- a node that is not missing needs none
-  pub wide-ready : {cap k : ℕ} {p : Parser} → Starts tab s st cap p k → p .cur .start < p .cur .end → Ready tab s st p
-  wide-ready {cap} {k} {p} h w =
+  pub wide-ready : {k : ℕ} {p : Parser} → Starts tab s st p k → p .cur .start < p .cur .end → Ready tab s st p
+  wide-ready {k} {p} h w =
       let i = idle-none (p .cur) w in
-      record { sound = h .sound; cap = cap; room = omega (arith, h .room); lent = h .lent; small = h .small; long = h .long; table = h .table }
+      record { sound = h .sound; cap = h .cap; room = omega (arith, h .room); lent = h .lent; small = h .small; long = h .long; table = h .table }
 
   -- a state that is ready has what the bytes of its token pay
-  pub ready-starts : {p : Parser} (r : Ready tab s st p) → Starts tab s st (r .cap) p 0
-  ready-starts r = record { sound = r .sound; room = omega (arith, r .room); lent = r .lent; small = r .small; long = r .long; table = r .table }
+  pub ready-starts : {p : Parser} (r : Ready tab s st p) → Starts tab s st p 0
+  ready-starts r = record { sound = r .sound; cap = r .cap; room = omega (arith, r .room); lent = r .lent; small = r .small; long = r .long; table = r .table }
 
-  pub ready-ends : {p : Parser} (r : Ready tab s st p) → p .cur .start + 3 ≤ p .cur .end → Ends tab s st (r .cap) p 6
-  ready-ends r w = record { sound = r .sound; room = omega (arith, r .room); lent = r .lent; small = r .small; long = r .long; table = r .table }
+  pub ready-ends : {p : Parser} (r : Ready tab s st p) → p .cur .start + 3 ≤ p .cur .end → Ends tab s st p 6
+  ready-ends r w = record { sound = r .sound; cap = r .cap; room = omega (arith, r .room); lent = r .lent; small = r .small; long = r .long; table = r .table }
 
-  pub starts-ends : {cap k : ℕ} {p : Parser} → Starts tab s st cap p k → Ends tab s st cap p k
-  starts-ends {cap} {k} {p} h =
+  pub starts-ends : {k : ℕ} {p : Parser} → Starts tab s st p k → Ends tab s st p k
+  starts-ends {k} {p} h =
       let w = h .sound .cur .wide in
-      record { sound = h .sound; room = omega (arith, h .room); lent = h .lent; small = h .small; long = h .long; table = h .table }
+      record { sound = h .sound; cap = h .cap; room = omega (arith, h .room); lent = h .lent; small = h .small; long = h .long; table = h .table }
 
   -- the next token begins behind this one
-  pub ends-next : {cap k : ℕ} {p q : Parser} → Ends tab s st cap p k → q ≡ next s p → Starts tab s st cap q k
+  pub ends-next : {k : ℕ} {p q : Parser} → Ends tab s st p k → q ≡ next s p → Starts tab s st q k
   unfolding next
-  ends-next {cap} {k} {p} {q} h e =
+  ends-next {k} {p} {q} h e =
       let f = h .sound .peek .from in
-      rw e (record { sound = next-sound s p (h .sound); room = omega (arith, h .room); lent = h .lent; small = h .small; long = h .long; table = h .table })
+      rw e (record { sound = next-sound s p (h .sound); cap = h .cap; room = omega (arith, h .room); lent = h .lent; small = h .small; long = h .long; table = h .table })
 
-  pub starts-next : {cap k : ℕ} {p q : Parser} → Starts tab s st cap p k → q ≡ next s p → Starts tab s st cap q k
+  pub starts-next : {k : ℕ} {p q : Parser} → Starts tab s st p k → q ≡ next s p → Starts tab s st q k
   starts-next h e = ends-next (starts-ends h) e
 
-  -- a mark that is passed pays two records
-  pub ends-mark : {cap k : ℕ} {p q r : Parser} (m : Mark) → Ends tab s st cap p k → peekIs p m ≡ true → 1 ≤ markNumber m → q ≡ next s p → r ≡ next s q
-      → Starts tab s st cap r (k + 2)
+  -- a token of a byte or more that is passed pays two records
+  ends-byte : {k : ℕ} {p q r : Parser} → Ends tab s st p k → 1 ≤ least (p .peek .token) → q ≡ next s p → r ≡ next s q → Starts tab s st r (k + 2)
   unfolding next
-  ends-mark {cap} {k} {p} {q} {r} m h is some-mark e f =
-      let b = mark-byte (p .peek .token) m some-mark is in
+  ends-byte {k} {p} {q} {r} h b e f =
       let a = h .sound .peek .from in
       let w = h .sound .peek .wide in
       let n = next-sound s p (h .sound) .peek .from in
       let two = next-sound s (next s p) (next-sound s p (h .sound)) in
-      rw (f, e) (record { sound = two; room = omega (arith, h .room); lent = h .lent; small = h .small; long = h .long; table = h .table })
+      rw (f, e) (record { sound = two; cap = h .cap; room = omega (arith, h .room); lent = h .lent; small = h .small; long = h .long; table = h .table })
+
+  -- .. as a mark is, and the mark of a script
+  pub ends-mark : {k : ℕ} {p q r : Parser} (m : Mark) → Ends tab s st p k → peekIs p m ≡ true → 1 ≤ markNumber m → q ≡ next s p → r ≡ next s q
+      → Starts tab s st r (k + 2)
+  ends-mark {k} {p} m h is some-mark e f = ends-byte h (mark-byte (p .peek .token) m some-mark is) e f
+
+  pub ends-script : {k : ℕ} {p q r : Parser} (over : Bool) → Ends tab s st p k → scriptOf (p .peek .token) ≡ Script.Operand over → q ≡ next s p → r ≡ next s q
+      → Starts tab s st r (k + 2)
+  ends-script {k} {p} over h is e f = ends-byte h (script-byte (p .peek .token) over is) e f
 
   -- a text begins and ends behind the current token
-  pub starts-text : {cap k : ℕ} {p : Parser} {t : TextRead} → Starts tab s st cap p k → t ≡ parseText s p → Starts tab s st cap (t .after) k
-  starts-text {cap} {k} {p} {t} h e =
+  pub starts-text : {k : ℕ} {p : Parser} {t : TextRead} → Starts tab s st p k → t ≡ parseText s p → Starts tab s st (t .after) k
+  starts-text {k} {p} {t} h e =
       let x = text-sound s p (h .sound) in
       let w = h .sound .cur .wide in
       let on = x .on in
       let up = x .rises in
       let ends = x .ends in
       let same = x .same in
-      rw e (record { sound = x .sound; room = omega (arith, h .room); lent = h .lent; small = h .small; long = h .long; table = h .table })
+      rw e (record { sound = x .sound; cap = h .cap; room = omega (arith, h .room); lent = h .lent; small = h .small; long = h .long; table = h .table })
 
   -- so many records can be made
-  pub ends-free : {cap k : ℕ} {p : Parser} (n : ℕ) → Ends tab s st cap p k → n ≤ k → Free st p n
+  pub ends-free : {k : ℕ} {p : Parser} (n : ℕ) → Ends tab s st p k → n ≤ k → Free st p n
   ends-free n h le =
       let i = h .sound .cur .inside in
       let r = h .room in
@@ -113,52 +107,52 @@ module _ {tab s st : List ℕ} where
       let b = h .small in
       record { fits = omega arith; small = omega arith }
 
-  pub starts-free : {cap k : ℕ} {p : Parser} (n : ℕ) → Starts tab s st cap p k → n ≤ k → Free st p n
+  pub starts-free : {k : ℕ} {p : Parser} (n : ℕ) → Starts tab s st p k → n ≤ k → Free st p n
   starts-free n h le = ends-free n (starts-ends h) le
 
 module _ {tab s st st′ : List ℕ} (len : length st′ ≡ length st) where
   -- a node that is read takes one record to spare at most
-  pub node-ends : {cap k : ℕ} {reads : Reads} {p q : Parser} {lo i : ℕ} (j : ℕ) → Starts tab s st cap p k → suc j ≤ k → Keeps s reads → Built st st′ lo p (reads p) i q → Ends tab s st′ cap q j
-  node-ends {cap} {k} {reads} {p} {q} j h le keeps b =
+  pub node-ends : {k : ℕ} {reads : Reads} {p q : Parser} {lo i : ℕ} (j : ℕ) → Starts tab s st p k → suc j ≤ k → Keeps s reads → Built st st′ lo p (reads p) i q → Ends tab s st′ q j
+  node-ends {k} {reads} {p} {q} j h le keeps b =
       let kept = keeps p (b .tree) q (h .sound) (b .is) in
       let i = idle-le (p .cur) in
       let sp = kept .spent in
       let r = h .room in
       let l = h .lent in
-      record { sound = kept .sound; room = omega arith; lent = omega arith; small = h .small; long = h .long; table = h .table }
+      record { sound = kept .sound; cap = h .cap; room = omega arith; lent = omega arith; small = h .small; long = h .long; table = h .table }
 
   -- a node that is not missing takes none
-  pub wide-ends : {cap k : ℕ} {reads : Reads} {p q : Parser} {lo i : ℕ} → Starts tab s st cap p k → p .cur .start < p .cur .end → Keeps s reads → Built st st′ lo p (reads p) i q
-      → Ends tab s st′ cap q k
-  wide-ends {cap} {k} {reads} {p} {q} h w keeps b =
+  pub wide-ends : {k : ℕ} {reads : Reads} {p q : Parser} {lo i : ℕ} → Starts tab s st p k → p .cur .start < p .cur .end → Keeps s reads → Built st st′ lo p (reads p) i q
+      → Ends tab s st′ q k
+  wide-ends {k} {reads} {p} {q} h w keeps b =
       let kept = keeps p (b .tree) q (h .sound) (b .is) in
       let i = idle-none (p .cur) w in
       let sp = kept .spent in
       let r = h .room in
       let l = h .lent in
-      record { sound = kept .sound; room = omega arith; lent = omega arith; small = h .small; long = h .long; table = h .table }
+      record { sound = kept .sound; cap = h .cap; room = omega arith; lent = omega arith; small = h .small; long = h .long; table = h .table }
 
   -- a group pays for itself
-  pub group-ends : {cap k : ℕ} {node : Reads} {p q : Parser} {lo i : ℕ} (end : Mark) → Starts tab s st cap p k → Keeps s node → 1 ≤ markNumber end → Built st st′ lo p (parseGroup node s end p) i q
-      → Ends tab s st′ cap q k
+  pub group-ends : {k : ℕ} {node : Reads} {p q : Parser} {lo i : ℕ} (end : Mark) → Starts tab s st p k → Keeps s node → 1 ≤ markNumber end → Built st st′ lo p (parseGroup node s end p) i q
+      → Ends tab s st′ q k
   unfolding next
-  group-ends {cap} {k} {node} {p} {q} end h keeps some-mark b =
+  group-ends {k} {node} {p} {q} end h keeps some-mark b =
       let g = group-kept keeps end some-mark p (b .tree) q (h .sound) (b .is) in
       let a = h .sound .cur .wide in
       let f = h .sound .peek .from in
       let sp = g .spent in
       let r = h .room in
       let l = h .lent in
-      record { sound = g .sound; room = omega arith; lent = omega arith; small = h .small; long = h .long; table = h .table }
+      record { sound = g .sound; cap = h .cap; room = omega arith; lent = omega arith; small = h .small; long = h .long; table = h .table }
 
   -- a node that is read from a state that is ready
-  pub ready-node : {reads : Reads} {p q : Parser} {lo i : ℕ} (r : Ready tab s st p) → Keeps s reads → Built st st′ lo p (reads p) i q → Ends tab s st′ (r .cap) q 0
+  pub ready-node : {reads : Reads} {p q : Parser} {lo i : ℕ} (r : Ready tab s st p) → Keeps s reads → Built st st′ lo p (reads p) i q → Ends tab s st′ q 0
   ready-node {reads} {p} {q} h keeps b =
       let kept = keeps p (b .tree) q (h .sound) (b .is) in
       let sp = kept .spent in
       let r = h .room in
       let l = h .lent in
-      record { sound = kept .sound; room = omega arith; lent = omega arith; small = h .small; long = h .long; table = h .table }
+      record { sound = kept .sound; cap = h .cap; room = omega arith; lent = omega arith; small = h .small; long = h .long; table = h .table }
 
 -- a state that is ready has a record for its token
 pub ready-free : {tab s st : List ℕ} {p : Parser} → Ready tab s st p → Free st p 1
@@ -172,9 +166,9 @@ ready-free h =
     record { fits = omega arith; small = omega arith }
 
 -- a prime pays for the two records that are made of it
-pub prime-free : {tab s st : List ℕ} {cap : ℕ} {q : Parser} → Ends tab s st cap q 0 → Primed st q
+pub prime-free : {tab s st : List ℕ} {q : Parser} → Ends tab s st q 0 → Primed st q
 unfolding markNumber
-prime-free {tab} {s} {st} {cap} {q} h is =
+prime-free {tab} {s} {st} {q} h is =
     let b = mark-byte (q .peek .token) Mark.Prime (lit≤ tt) is in
     let f = h .sound .peek .from in
     let w = h .sound .peek .wide in

@@ -15,7 +15,7 @@ use Rattle.ast.proofs.RowLaws.{lower}
 use Rattle.parser.specs.declared.Parser.{Parser}
 use Rattle.parser.specs.declared.ParsedNode.{ParsedNode}
 use Rattle.parser.specs.Parse.{Parsed, made, refused, Reads, parseBare}
-use Rattle.parser.specs.Built.{Built, Builds, BuildsNone, BuildsOne, BuildsTwo}
+use Rattle.parser.specs.Built.{Built, Builds, BuildsNone, BuildsOne, BuildsTwo, BuildsThree}
 
 -- the records that were made before the state p stay
 abbrev pub Stay : List ℕ → List ℕ → Parser → Type 0
@@ -38,77 +38,76 @@ pub after-none : (st st′ : List ℕ) (p q : Parser) (want w : Parsed Node) (r 
     → Builds st st′ (p .made) p want r
 after-none st st′ p q want w r e b is = rebased st st st′ (p .made) p q want w r (b (p .made) (omega arith)) (λ j h. refl) (omega arith) is
 
+-- a node is read from the state b on, before which the records are those of p
 module _ (st st₁ : List ℕ) (p b q : Parser) (want₁ : Parsed Node) (i : ℕ) (same : b .made ≡ p .made) (g : Built st st₁ (b .made) b want₁ i q) where
-  first-held : holds st₁ (p .made) i (g .tree)
-  first-held = rw same at (g .held)
+  new-above : p .made ≤ i
+  new-above =
+      let a = low st₁ (b .made) i (g .tree) (g .held) in
+      omega arith
 
-  first-low : p .made ≤ i
-  first-low = low st₁ (p .made) i (g .tree) first-held
+  new-held : (lo : ℕ) → lo ≤ p .made → holds st₁ lo i (g .tree)
+  new-held lo le = lower st₁ (b .made) lo (omega arith) i (g .tree) (g .held)
 
-  first-kept : Stay st st₁ p
-  first-kept j h = g .kept j (omega arith)
+  old-kept : Stay st st₁ p
+  old-kept j h = g .kept j (omega arith)
+
+  old-held : (lo a : ℕ) (n : Node) → a < p .made → holds st lo a n → holds st₁ lo a n
+  old-held lo a n lt h = frame st st₁ lo a n (λ k x y. old-kept k (omega arith)) (same-but (old-kept a lt)) h
+
+  pub old-below : (a : ℕ) → a < p .made → a < q .made
+  old-below a lt =
+      let c = new-above in
+      let d = g .below in
+      omega arith
 
   -- the node itself is the answer
   pub only : (want : Parsed Node) → want ≡ made (g .tree) q → Built st st₁ (p .made) p want i q
-  only want e = record { tree = g .tree; is = e; held = first-held; below = g .below; kept = first-kept }
+  only want e = record { tree = g .tree; is = e; held = new-held (p .made) (omega arith); below = g .below; kept = old-kept }
 
-  -- one node is read before
+  -- it is a part of the answer, by itself, beside a node that is there already, and beside two
   pub after-one : (st₂ : List ℕ) (q′ : Parser) (f : Node → Parsed Node) (want : Parsed Node) (r : ParsedNode) → q′ .made ≡ q .made → BuildsOne st₁ st₂ q′ i f r → want ≡ f (g .tree)
       → Builds st st₂ (p .made) p want r
   after-one st₂ q′ f want r e bs is =
-      let a = first-low in
+      let a = new-above in
       let d = g .below in
-      rebased st st₁ st₂ (p .made) p q′ want (f (g .tree)) r (bs (p .made) (g .tree) (omega arith) first-held) first-kept (omega arith) is
+      rebased st st₁ st₂ (p .made) p q′ want (f (g .tree)) r (bs (p .made) (g .tree) (omega arith) (new-held (p .made) (omega arith))) old-kept (omega arith) is
 
-  -- two nodes are read before
-  module _ (st₂ : List ℕ) (b′ q₂ : Parser) (want₂ : Parsed Node) (j : ℕ) (same₂ : b′ .made ≡ q .made) (h : Built st₁ st₂ (b′ .made) b′ want₂ j q₂) where
-    both-kept : Stay st₁ st₂ q
-    both-kept k lt = h .kept k (omega arith)
+  pub beside-one : (a : ℕ) → a < p .made → (st₂ : List ℕ) (q′ : Parser) (f : Node → Node → Parsed Node) (want : Node → Parsed Node) (r : ParsedNode) → q′ .made ≡ q .made
+      → BuildsTwo st₁ st₂ q′ a i f r → ((n : Node) → want n ≡ f n (g .tree)) → BuildsOne st st₂ p a want r
+  beside-one a lt st₂ q′ f want r e bs is lo n le h =
+      let c = new-above in
+      let d = g .below in
+      rebased st st₁ st₂ lo p q′ (want n) (f n (g .tree)) r (bs lo n (g .tree) (omega arith) (old-held lo a n lt h) (new-held lo le)) old-kept (omega arith) (is n)
 
-    second-low : p .made ≤ b′ .made
-    second-low =
-        let a = first-low in
-        let d = g .below in
-        omega arith
+  pub beside-two : (a b : ℕ) → a < p .made → b < p .made → (st₂ : List ℕ) (q′ : Parser) (f : Node → Node → Node → Parsed Node) (want : Node → Node → Parsed Node) (r : ParsedNode)
+      → q′ .made ≡ q .made → BuildsThree st₁ st₂ q′ a b i f r → ((m n : Node) → want m n ≡ f m n (g .tree)) → BuildsTwo st st₂ p a b want r
+  beside-two a b la lb st₂ q′ f want r e bs is lo m n le x y =
+      let c = new-above in
+      let d = g .below in
+      rebased st st₁ st₂ lo p q′ (want m n) (f m n (g .tree)) r (bs lo m n (g .tree) (omega arith) (old-held lo a m la x) (old-held lo b n lb y) (new-held lo le)) old-kept (omega arith) (is m n)
 
-    second-held : holds st₂ (p .made) j (h .tree)
-    second-held = lower st₂ (b′ .made) (p .made) second-low j (h .tree) (h .held)
+-- two nodes are read, one after the other
+module _ (st st₁ : List ℕ) (p b q : Parser) (want₁ : Parsed Node) (i : ℕ) (same : b .made ≡ p .made) (g : Built st st₁ (b .made) b want₁ i q)
+    (st₂ : List ℕ) (b′ q₂ : Parser) (want₂ : Parsed Node) (j : ℕ) (same₂ : b′ .made ≡ q .made) (h : Built st₁ st₂ (b′ .made) b′ want₂ j q₂) where
+  pub first-below : i < q₂ .made
+  first-below = old-below st₁ st₂ q b′ q₂ want₂ j same₂ h i (g .below)
 
-    second-above : b′ .made ≤ j
-    second-above = low st₂ (b′ .made) j (h .tree) (h .held)
+  pub after-two : (st₃ : List ℕ) (q′ : Parser) (f : Node → Node → Parsed Node) (want : Parsed Node) (r : ParsedNode) → q′ .made ≡ q₂ .made → BuildsTwo st₂ st₃ q′ i j f r
+      → want ≡ f (g .tree) (h .tree) → Builds st st₃ (p .made) p want r
+  after-two st₃ q′ f want r e bs is =
+      after-one st st₁ p b q want₁ i same g st₃ q (λ n. f n (h .tree)) want r refl
+      (beside-one st₁ st₂ q b′ q₂ want₂ j same₂ h i (g .below) st₃ q′ f (λ n. f n (h .tree)) r e bs (λ n. refl))
+      is
 
-    -- the first stays while the second is built behind it
-    stayed : holds st₂ (p .made) i (g .tree)
-    stayed =
-        let d = g .below in
-        frame st₁ st₂ (p .made) i (g .tree) (λ k x y. both-kept k (omega arith)) (same-but (both-kept i d)) first-held
+  -- .. of which the second stands first
+  pub after-two-swapped : (st₃ : List ℕ) (q′ : Parser) (f : Node → Node → Parsed Node) (want : Parsed Node) (r : ParsedNode) → q′ .made ≡ q₂ .made → BuildsTwo st₂ st₃ q′ j i f r
+      → want ≡ f (h .tree) (g .tree) → Builds st st₃ (p .made) p want r
+  after-two-swapped st₃ q′ f want r e bs is =
+      after-two st₃ q′ (λ m n. f n m) want r e (λ lo m n le x y. bs lo n m le y x) is
 
-    all-kept : Stay st st₂ p
-    all-kept k lt =
-        let a = first-low in
-        let d = g .below in
-        both-kept k (omega arith) ∙ first-kept k lt
-
-    pub first-below : i < q₂ .made
-    first-below =
-        let d = g .below in
-        let a = second-above in
-        let c = h .below in
-        omega arith
-
-    pub after-two : (st₃ : List ℕ) (q′ : Parser) (f : Node → Node → Parsed Node) (want : Parsed Node) (r : ParsedNode) → q′ .made ≡ q₂ .made → BuildsTwo st₂ st₃ q′ i j f r
-        → want ≡ f (g .tree) (h .tree) → Builds st st₃ (p .made) p want r
-    after-two st₃ q′ f want r e bs is =
-        let a = second-low in
-        let c = second-above in
-        let d = h .below in
-        rebased st st₂ st₃ (p .made) p q′ want (f (g .tree) (h .tree)) r (bs (p .made) (g .tree) (h .tree) (omega arith) stayed second-held) all-kept (omega arith) is
-
-    -- .. of which the second stands first
-    pub after-two-swapped : (st₃ : List ℕ) (q′ : Parser) (f : Node → Node → Parsed Node) (want : Parsed Node) (r : ParsedNode) → q′ .made ≡ q₂ .made → BuildsTwo st₂ st₃ q′ j i f r
-        → want ≡ f (h .tree) (g .tree) → Builds st st₃ (p .made) p want r
-    after-two-swapped st₃ q′ f want r e bs is =
-        after-two st₃ q′ (λ m n. f n m) want r e (λ lo m n le x y. bs lo n m le y x) is
+-- nothing is read before
+pub as-two : (st st′ : List ℕ) (p : Parser) (a b : ℕ) (f want : Node → Node → Parsed Node) (r : ParsedNode) → BuildsTwo st st′ p a b f r → ((m n : Node) → want m n ≡ f m n) → BuildsTwo st st′ p a b want r
+as-two st st′ p a b f want r bs is lo m n le x y = rebased st st st′ lo p p (want m n) (f m n) r (bs lo m n le x y) (λ j h. refl) (omega arith) (is m n)
 
 -- the letters of a node that is read get a variant
 pub after-set : (st st₁ st₂ : List ℕ) (p b q : Parser) (want₁ want : Parsed Node) (i : ℕ) (v : Variant) → b .made ≡ p .made → (g : Built st st₁ (b .made) b want₁ i q) → Sets st₁ st₂ i v

@@ -28,8 +28,9 @@ use Rattle.parser.specs.declared.Pair.{Pair}
 use Rattle.parser.specs.declared.Limits.{Limits}
 use Rattle.parser.specs.State.{next, curIs, peekIs, parseText}
 use Rattle.parser.specs.Environment.{environment}
-use Rattle.parser.specs.Parse.{Parsed, made, refused, Reads, _>>=_, build, groupUpTo, grouped, parseGroup, parseSqrt, ofPair, parseTwo, parseOne, parseBrace, operator, withBelow, withAbove, withBoth, parseLimits, parseLim, parseSlashed, parseStyle, withFence, fenced, parseLeft, stretch, stretched, parseMiddle, sized, parseBig, opened, inEnvironment, parseBegin, parseTextLeaf, parseBare, primed, singleStep, script, nodeStep, parseNode, parseSingleNode}
-use Rattle.parser.specs.Marks.{fence, scriptOf, scriptKind, otherLimit, withLimit, withLimits}
+use Rattle.parser.specs.Parse.{Parsed, made, refused, Reads, _>>=_, build, groupUpTo, grouped, parseGroup, parseSqrt, ofPair, parseTwo, parseOne, parseBrace, operator, withBelow, withAbove, withBoth, parseLimits, parseLim, parseSlashed, parseStyle, withFence, fenced, parseLeft, stretch, stretched, parseMiddle, sized, parseBig, opened, inEnvironment, parseBegin, parseTextLeaf, parseBare, primed, singleStep, subSup, bothScripts, parseSecond, parseScripts, nodeStep, parseNode, parseSingleNode}
+use Rattle.parser.specs.Marks.{fence, scriptOf, scriptKind, repeats, otherLimit}
+use Rattle.parser.specs.Built.{withLimit, withLimits}
 
 module _ (node : Reads) (s : List ℕ) (p : Parser) {b : Parser} (e : b ≡ next s p) where
   -- one operand
@@ -184,8 +185,8 @@ pub text-is : (s : List ℕ) (kind : ℕ → ℕ → Leaf) (p : Parser) {b : Par
 unfolding parseTextLeaf
 text-is s kind p e f = rw (parseTextLeaf, ← e, ← f)
 
--- the token behind a node puts a script on it
-pub no-script : (t : Token) → scriptOf t ≡ Script.Neither → (tokenIs t Mark.Underscore ≡ false) × (tokenIs t Mark.Circumflex ≡ false)
+-- the token behind a node is no mark of a script, or which
+no-script : (t : Token) → scriptOf t ≡ Script.Neither → (tokenIs t Mark.Underscore ≡ false) × (tokenIs t Mark.Circumflex ≡ false)
 unfolding scriptOf
 no-script t e =
     by-test (tokenIs t Mark.Underscore)
@@ -196,11 +197,11 @@ no-script t e =
     (λ y. (x, y)))
 
 -- the mark of a script below or above
-abbrev pub scriptMark : Bool → Mark
+abbrev scriptMark : Bool → Mark
 scriptMark true = Mark.Circumflex
 scriptMark false = Mark.Underscore
 
-pub script-mark : (t : Token) (over : Bool) → scriptOf t ≡ Script.Operand over → tokenIs t (scriptMark over) ≡ true
+script-mark : (t : Token) (over : Bool) → scriptOf t ≡ Script.Operand over → tokenIs t (scriptMark over) ≡ true
 unfolding scriptOf
 script-mark t over e =
     by-test (tokenIs t Mark.Underscore)
@@ -210,43 +211,59 @@ script-mark t over e =
     (λ y. let f = rw (scriptOf, x, y) at e in let g : true ≡ over = cc in rw (← g) y)
     (λ y. let f = rw (scriptOf, x, y) at e in never cc))
 
-module _ (node single : Reads) (s : List ℕ) (p : Parser) where
-  pub node-no : {r : Refusal} → single p ≡ refused r → nodeStep node single s p ≡ refused r
+module _ (single : Reads) (s : List ℕ) (p : Parser) where
+  pub node-no : {r : Refusal} → single p ≡ refused r → nodeStep single s p ≡ refused r
   unfolding nodeStep _>>=_
   node-no h = rw h
 
-  module _ {q : Parser} {a : Node} (h : single p ≡ made a q) where
-    pub node-bare : scriptOf (q .peek .token) ≡ Script.Neither → nodeStep node single s p ≡ made a q
-    unfolding nodeStep _>>=_
-    node-bare f =
-        let g = no-script (q .peek .token) f in
-        rw (nodeStep, h, _>>=_, g .0, g .1)
+  pub node-is : {q : Parser} {a : Node} → single p ≡ made a q → nodeStep single s p ≡ parseScripts single s (scriptOf (q .peek .token)) a q
+  unfolding nodeStep _>>=_
+  node-is h = rw h
 
-    scripted : (over : Bool) → scriptOf (q .peek .token) ≡ Script.Operand over → nodeStep node single s p ≡ script node s (scriptKind over) a q
-    unfolding nodeStep _>>=_ scriptOf
-    scripted over f =
-        by-test (tokenIs (q .peek .token) Mark.Underscore)
-        (λ x. let g : false ≡ over = (let z = rw (scriptOf, x) at f in cc) in rw (← g) (rw (nodeStep, h, _>>=_, x)))
-        (λ x.
-        by-test (tokenIs (q .peek .token) Mark.Circumflex)
-        (λ y. let g : true ≡ over = (let z = rw (scriptOf, x, y) at f in cc) in rw (← g) (rw (nodeStep, h, _>>=_, x, y)))
-        (λ y. let z = rw (scriptOf, x, y) at f in never cc))
+  -- behind a base no mark is next, and behind a base with one script none or the same
+  pub scripts-none : scriptOf (p .peek .token) ≡ Script.Neither → (a : Node) → parseScripts single s (scriptOf (p .peek .token)) a p ≡ made a p
+  unfolding parseScripts
+  scripts-none f a = rw f
 
-    module _ (over : Bool) (f : scriptOf (q .peek .token) ≡ Script.Operand over) {b c : Parser} (e : b ≡ next s q) (g : c ≡ next s b) where
-      pub script-no : {r : Refusal} → node c ≡ refused r → nodeStep node single s p ≡ refused r
-      unfolding script _>>=_
-      script-no k = scripted over f ∙ rw (← e, ← g, k)
+  pub second-none : (over : Bool) → scriptOf (p .peek .token) ≡ Script.Neither → (a x : Node)
+      → parseSecond single s over (scriptOf (p .peek .token)) a x p ≡ build 1 (two (scriptKind over) a x) p
+  unfolding parseSecond
+  second-none over f a x = rw f
 
-      pub script-is : {d : Node} {q′ : Parser} → node c ≡ made d q′ → nodeStep node single s p ≡ build 1 (two (scriptKind over) a d) q′
-      unfolding script _>>=_
-      script-is k = scripted over f ∙ rw (← e, ← g, k)
+  pub second-again : (over again : Bool) → scriptOf (p .peek .token) ≡ Script.Operand again → repeats over again ≡ true → (a x : Node)
+      → parseSecond single s over (scriptOf (p .peek .token)) a x p ≡ refused Refusal.RepeatedMark
+  unfolding parseSecond
+  second-again over again f h a x = rw (f, parseSecond, h)
+
+  module _ {b c : Parser} (e : b ≡ next s p) (g : c ≡ next s b) (over : Bool) where
+    -- behind a base a mark is next
+    module _ (f : scriptOf (p .peek .token) ≡ Script.Operand over) where
+      pub scripts-no : {r : Refusal} → single c ≡ refused r → (a : Node) → parseScripts single s (scriptOf (p .peek .token)) a p ≡ refused r
+      unfolding parseScripts _>>=_
+      scripts-no k a = rw (f, ← e, ← g, k)
+
+      pub scripts-is : {x : Node} {q : Parser} → single c ≡ made x q → (a : Node)
+          → parseScripts single s (scriptOf (p .peek .token)) a p ≡ parseSecond single s over (scriptOf (q .peek .token)) a x q
+      unfolding parseScripts _>>=_
+      scripts-is k a = rw (f, ← e, ← g, k)
+
+    -- behind a base with one script the other mark is next
+    module _ (again : Bool) (f : scriptOf (p .peek .token) ≡ Script.Operand again) (h : repeats over again ≡ false) where
+      pub second-no : {r : Refusal} → single c ≡ refused r → (a x : Node) → parseSecond single s over (scriptOf (p .peek .token)) a x p ≡ refused r
+      unfolding parseSecond _>>=_
+      second-no k a x = rw (f, parseSecond, h, ← e, ← g, k)
+
+      pub second-is : {y : Node} {q : Parser} → single c ≡ made y q → (a x : Node)
+          → parseSecond single s over (scriptOf (p .peek .token)) a x p ≡ bothScripts (scriptOf (q .peek .token)) (subSup over a x y) q
+      unfolding parseSecond _>>=_
+      second-is k a x = rw (f, parseSecond, h, ← e, ← g, k)
 
 -- ---- limits
 
-pub script-below : (t : Token) → scriptOf t ≡ Script.Operand false → tokenIs t Mark.Underscore ≡ true
+script-below : (t : Token) → scriptOf t ≡ Script.Operand false → tokenIs t Mark.Underscore ≡ true
 script-below t e = script-mark t false e
 
-pub script-above : (t : Token) → scriptOf t ≡ Script.Operand true → (tokenIs t Mark.Underscore ≡ false) × (tokenIs t Mark.Circumflex ≡ true)
+script-above : (t : Token) → scriptOf t ≡ Script.Operand true → (tokenIs t Mark.Underscore ≡ false) × (tokenIs t Mark.Circumflex ≡ true)
 unfolding scriptOf
 script-above t e =
     by-test (tokenIs t Mark.Underscore)
@@ -304,14 +321,14 @@ single-zero (suc d) s p e = absurd (omega arith)
 pub node-few : (d : ℕ) (s : List ℕ) (p : Parser) → d < 2 → parseNode d s p ≡ refused Refusal.TooDeep
 unfolding parseNode
 node-few zero s p l = refl
-node-few (suc d) s p l = node-no (λ q. parseNode d s q) (λ q. parseSingleNode d s q) s p (single-zero d s p (omega arith))
+node-few (suc d) s p l = node-no (λ q. parseSingleNode d s q) s p (single-zero d s p (omega arith))
 
-pub node-more : (d : ℕ) (s : List ℕ) (p : Parser) → 2 ≤ d → parseNode d s p ≡ nodeStep (λ q. parseNode (d - 1) s q) (λ q. parseSingleNode (d - 1) s q) s p
+pub node-more : (d : ℕ) (s : List ℕ) (p : Parser) → 2 ≤ d → parseNode d s p ≡ nodeStep (λ q. parseSingleNode (d - 1) s q) s p
 unfolding parseNode
 node-more zero s p l = absurd (omega arith)
 node-more (suc d) s p l =
     let less : d ≡ suc d - 1 = omega arith in
-    ap (λ x. nodeStep (λ q. parseNode x s q) (λ q. parseSingleNode x s q) s p) less
+    ap (λ x. nodeStep (λ q. parseSingleNode x s q) s p) less
 
 pub single-more : (d : ℕ) (s : List ℕ) (p : Parser) → (d ≡ 0 → ⊥) → parseSingleNode d s p ≡ singleStep (λ q. parseNode (d - 1) s q) (λ q. parseSingleNode (d - 1) s q) s p
 unfolding parseSingleNode
@@ -338,12 +355,7 @@ pub prime-none : (s : List ℕ) (n : Node) (p : Parser) → peekIs p Mark.Prime 
 unfolding primed
 prime-none s n p f = rw (primed, f)
 
--- the marks of scripts and limits take a byte
-pub script-byte : (over : Bool) → 1 ≤ markNumber (scriptMark over)
-unfolding markNumber
-script-byte true = lit≤ tt
-script-byte false = lit≤ tt
-
+-- the mark of the other limit takes a byte
 pub other-byte : (over : Bool) → 1 ≤ markNumber (otherLimit over)
 unfolding markNumber
 other-byte true = lit≤ tt

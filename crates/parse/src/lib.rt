@@ -28,11 +28,13 @@ use parser::make::make_limits;
 use parser::make::make_one;
 use parser::make::make_pair;
 use parser::make::make_row;
+use parser::make::make_scripts;
 use parser::make::make_stretched;
 use parser::make::make_two;
 use parser::marks::fence_of;
 use parser::marks::leaf_of;
 use parser::marks::other_limit;
+use parser::marks::repeats;
 use parser::marks::script_kind;
 use parser::marks::script_of;
 use parser::marks::stands_alone;
@@ -45,8 +47,9 @@ ghost use lib.ListN.{length};
 ghost use Rattle.ast.specs.declared.Leaf.the-variants.{FunctionName, Text};
 ghost use Rattle.token.specs.Roles.{markNumber};
 ghost use Rattle.token.specs.Key.{rows};
-ghost use Rattle.parser.specs.Parse.{build, parseNode, parseSingleNode, parseGroup, parseSqrt, parseTwo, parseOne, parseBrace, parseLimits, parseLim, parseSlashed, parseStyle, parseLeft, parseMiddle, parseBig, parseBegin, parseTextLeaf, parseBare, primed};
-ghost use Rattle.parser.specs.Built.{Ready, Free, Primed, Builds, BuildsOne};
+ghost use Rattle.parser.specs.Parse.{build, parseNode, parseSingleNode, parseGroup, parseSqrt, parseTwo, parseOne, parseBrace, parseLimits, parseLim, parseSlashed, parseStyle, parseLeft, parseMiddle, parseBig, parseBegin, parseTextLeaf, parseBare, primed, parseSecond, parseScripts};
+ghost use Rattle.parser.specs.Marks.{scriptOf};
+ghost use Rattle.parser.specs.Built.{Ready, Ends, Free, Primed, Builds, BuildsOne, BuildsTwo};
 
 // The Rust's `Result<Vec<Node>, LatexError>`: the index of the first of some nodes, linked by next, how many they are, and how many records
 // are made; or why there are none.
@@ -72,25 +75,64 @@ fn parse_node(s: &[u8], store: &mut [u8], p: Parser, depth: usize, table: &Table
     }
     match parse_single_node(s, store, p, depth - 1, table) {
         ParsedNode::Refused(r) => ParsedNode::Refused(r),
-        ParsedNode::Node(left, q) => {
-            let peek = q.peek;
-            let token = peek.token;
-            match script_of(token) {
-                Script::Neither => ParsedNode::Node(left, q),
-                Script::Operand(over) => {
-                    let mark = q.next_token(s, table);
-                    let begin = mark.next_token(s, table);
-                    match parse_node(s, store, begin, depth - 1, table) {
-                        ParsedNode::Refused(r) => ParsedNode::Refused(r),
-                        ParsedNode::Node(right, r) => make_two(
-                            store,
-                            r,
-                            script_kind(over),
-                            left,
-                            right,
-                        ),
-                    }
-                }
+        ParsedNode::Node(base, q) => scripts(s, store, q, depth - 1, base, table),
+    }
+}
+
+// A base with the scripts behind it, of which each operand is one single node.
+fn scripts(
+    s: &[u8],
+    store: &mut [u8],
+    p: Parser,
+    depth: usize,
+    base: usize,
+    table: &Table,
+) -> ParsedNode
+    requires { ⌜ Ends (now table) (now s) (now store) p 0 × (base < p .made) ⌝ }
+    ensures { λ r. ⌜ BuildsOne (now (store .entry)) (now (store .exit)) p base (λ n. parseScripts (λ q. parseSingleNode depth (now (s .entry)) q) (now (s .entry)) (scriptOf (p .peek .token)) n p) r ⌝ }
+{
+    let peek = p.peek;
+    let token = peek.token;
+    match script_of(token) {
+        Script::Neither => ParsedNode::Node(base, p),
+        Script::Operand(over) => {
+            let mark = p.next_token(s, table);
+            let begin = mark.next_token(s, table);
+            match parse_single_node(s, store, begin, depth, table) {
+                ParsedNode::Refused(r) => ParsedNode::Refused(r),
+                ParsedNode::Node(x, q) => second(s, store, q, depth, over, base, x, table),
+            }
+        }
+    }
+}
+
+// A base with its first script x, and with the second where the other mark is next; a repeated mark is refused before its operand is read.
+fn second(
+    s: &[u8],
+    store: &mut [u8],
+    p: Parser,
+    depth: usize,
+    over: bool,
+    base: usize,
+    x: usize,
+    table: &Table,
+) -> ParsedNode
+    requires { ⌜ Ends (now table) (now s) (now store) p 1 × (base < p .made) × (x < p .made) ⌝ }
+    ensures { λ r. ⌜ BuildsTwo (now (store .entry)) (now (store .exit)) p base x (λ m n. parseSecond (λ q. parseSingleNode depth (now (s .entry)) q) (now (s .entry)) over (scriptOf (p .peek .token)) m n p) r ⌝ }
+{
+    let peek = p.peek;
+    let token = peek.token;
+    match script_of(token) {
+        Script::Neither => make_two(store, p, script_kind(over), base, x),
+        Script::Operand(again) => {
+            if repeats(over, again) {
+                return ParsedNode::Refused(Refusal::RepeatedMark);
+            }
+            let mark = p.next_token(s, table);
+            let begin = mark.next_token(s, table);
+            match parse_single_node(s, store, begin, depth, table) {
+                ParsedNode::Refused(r) => ParsedNode::Refused(r),
+                ParsedNode::Node(y, q) => make_scripts(store, q, over, base, x, y),
             }
         }
     }

@@ -1,7 +1,7 @@
 -- What the parser reads of a body is paid for by its bytes, at any depth; and no budget of a loop runs out.
 -- Assumes nothing.
 use mathlib.Core.Path.{_≡_, refl}
-use mathlib.Core.Bool.{true, false}
+use mathlib.Core.Bool.{Bool, true, false}
 use mathlib.Core.List.{List}
 use Prim.Native.Nat.{ℕ, zero, suc, _+_, _*_, _≤_, _<_}
 use native.Mathlib.Omega.{arith}
@@ -10,17 +10,41 @@ use lib.ListN.{length}
 use Rattle.text.proofs.Cases.{by-test, never}
 use Rattle.error.specs.declared.Refusal.{Refusal}
 use Rattle.token.specs.declared.Mark.{Mark}
-use Rattle.token.specs.Roles.{markNumber}
+use Rattle.token.specs.declared.Token.{Token}
+use Rattle.token.specs.Roles.{markNumber, tokenIs}
 use Rattle.ast.specs.declared.Two.{Two}
 use Rattle.ast.specs.Tree.{Node, one, Nodes, empty, snoc, size, sizes}
-use Rattle.ast.specs.Inside.{AllInside}
+use Rattle.ast.specs.Inside.{TreeInside, AllInside}
 use Rattle.parser.specs.declared.Parser.{Parser}
+use Rattle.parser.specs.declared.Script.{Script}
 use Rattle.parser.specs.State.{next, new, curIs, peekIs}
-use Rattle.parser.specs.Parse.{Parsed, made, refused, Reads, _>>=_, groupUpTo, primed, singleStep, script, nodeStep, parseNode, parseSingleNode, nodesUpTo, parse}
-use Rattle.parser.specs.Sound.{Sound, Kept, Keeps}
+use Rattle.parser.specs.Parse.{Parsed, made, refused, Reads, _>>=_, groupUpTo, primed, singleStep, subSup, bothScripts, parseSecond, parseScripts, nodeStep, parseNode, parseSingleNode, nodesUpTo, parse}
+use Rattle.parser.specs.Marks.{scriptOf, repeats}
+use Rattle.parser.specs.Sound.{least, Sound, Kept, Keeps}
 use Rattle.parser.proofs.MoveLaws.{other-byte, mark-byte, next-sound, new-sound, new-made}
 use Rattle.parser.proofs.KeepLaws.{by-parts, given, operand, built, Rowing, rowing-more}
 use Rattle.parser.proofs.ArmLaws.{bare-kept}
+
+-- the mark of a script takes a byte
+pub script-byte : (t : Token) (over : Bool) → scriptOf t ≡ Script.Operand over → 1 ≤ least t
+unfolding scriptOf markNumber
+script-byte t over e =
+    by-test (tokenIs t Mark.Underscore)
+    (λ x. mark-byte t Mark.Underscore (lit≤ tt) x)
+    (λ x.
+    by-test (tokenIs t Mark.Circumflex)
+    (λ y. mark-byte t Mark.Circumflex (lit≤ tt) y)
+    (λ y. let f = rw (scriptOf, x, y) at e in never cc))
+
+sub-sup-size : (over : Bool) (a b c : Node) → size (subSup over a b c) ≡ size a + (size b + size c) + 1
+unfolding subSup size
+sub-sup-size true a b c = omega arith
+sub-sup-size false a b c = omega arith
+
+sub-sup-inside : (n : ℕ) (over : Bool) (a b c : Node) → TreeInside n a → TreeInside n b → TreeInside n c → TreeInside n (subSup over a b c)
+unfolding subSup
+sub-sup-inside n true a b c x y z = (x, z, y)
+sub-sup-inside n false a b c x y z = (x, y, z)
 
 module _ {s : List ℕ} {node single : Reads} (nodes : Keeps s node) (singles : Keeps s single) where
   -- ---- parse_single_node and parse_node over the level below
@@ -39,30 +63,46 @@ module _ {s : List ℕ} {node single : Reads} (nodes : Keeps s node) (singles : 
       built s p (next s r) 2 _ m q (rw (primed, t) at rest) behind (omega arith) (omega arith) (omega arith) (k .inside, tt))
       (λ t. given (Kept s p) (rw (primed, t) at rest) k))
 
-  -- the mark before a script pays for the script and for a missing operand
-  script-kept : (kind : Two) (mark : Mark) → 1 ≤ markNumber mark → (p : Parser) (n : Node) (r : Parser) (m : Node) (q : Parser) → Kept s p n r
-      → peekIs r mark ≡ true → script node s kind n r ≡ made m q → Kept s p m q
-  unfolding script next size
-  script-kept kind mark some-mark p n r m q k t e =
-      by-parts _ _ e
-      (λ x z first rest.
-      let byte = mark-byte (r .peek .token) mark some-mark t in
-      let one = next-sound s r (k .sound) in
-      let a = operand nodes (next-sound s (next s r) one) first in
-      built s p z 1 _ m q rest (a .sound) (omega arith) (omega arith) (omega arith) (k .inside, a .inside))
+  -- the marks before the scripts of a base pay for the one record made of them and for missing operands
+  module _ (p : Parser) (n : Node) (r : Parser) (m : Node) (q : Parser) (k : Kept s p n r) (over : Bool) (mark : scriptOf (r .peek .token) ≡ Script.Operand over)
+      (x : Node) (z : Parser) (first : single (next s (next s r)) ≡ made x z) where
+    both-kept : (again : Bool) → scriptOf (z .peek .token) ≡ Script.Operand again → (script : Script) (y : Node) (w : Parser)
+        → single (next s (next s z)) ≡ made y w → bothScripts script (subSup over n x y) w ≡ made m q → Kept s p m q
+    unfolding bothScripts next
+    both-kept again mark′ (Script.Operand third) y w second e = never cc
+    both-kept again mark′ Script.Neither y w second e =
+        let byte = script-byte (r .peek .token) over mark in
+        let one = next-sound s r (k .sound) in
+        let a = operand singles (next-sound s (next s r) one) first in
+        let byte′ = script-byte (z .peek .token) again mark′ in
+        let two = next-sound s z (a .sound) in
+        let b = operand singles (next-sound s (next s z) two) second in
+        let few = sub-sup-size over n x y in
+        built s p w 1 _ m q e (b .sound) (omega arith) (omega arith) (omega arith) (sub-sup-inside (length s) over n x y (k .inside) (a .inside) (b .inside))
 
-  pub node-step-keeps : Keeps s (nodeStep node single s)
-  unfolding nodeStep markNumber
+    second-kept : (script : Script) → scriptOf (z .peek .token) ≡ script → parseSecond single s over script n x z ≡ made m q → Kept s p m q
+    unfolding parseSecond next size
+    second-kept Script.Neither none e =
+        let byte = script-byte (r .peek .token) over mark in
+        let one = next-sound s r (k .sound) in
+        let a = operand singles (next-sound s (next s r) one) first in
+        built s p z 1 _ m q e (a .sound) (omega arith) (omega arith) (omega arith) (k .inside, a .inside)
+    second-kept (Script.Operand again) mark′ e =
+        by-test (repeats over again)
+        (λ t. let f = rw (parseSecond, t) at e in never cc)
+        (λ t. by-parts _ _ (rw (parseSecond, t) at e) (λ y w second rest. both-kept again mark′ (scriptOf (w .peek .token)) y w second rest))
+
+  scripts-kept : (p : Parser) (n : Node) (r : Parser) (m : Node) (q : Parser) → Kept s p n r → (script : Script) → scriptOf (r .peek .token) ≡ script
+      → parseScripts single s script n r ≡ made m q → Kept s p m q
+  unfolding parseScripts
+  scripts-kept p n r m q k Script.Neither none e = given (Kept s p) e k
+  scripts-kept p n r m q k (Script.Operand over) mark e =
+      by-parts _ _ e (λ x z first rest. second-kept p n r m q k over mark x z first (scriptOf (z .peek .token)) refl rest)
+
+  pub node-step-keeps : Keeps s (nodeStep single s)
+  unfolding nodeStep
   node-step-keeps p m q h e =
-      by-parts _ _ e
-      (λ n r first rest.
-      let k = singles p n r h first in
-      by-test (peekIs r Mark.Underscore)
-      (λ t. script-kept Two.Subscript Mark.Underscore (lit≤ tt) p n r m q k t (rw t at rest))
-      (λ t.
-      by-test (peekIs r Mark.Circumflex)
-      (λ u. script-kept Two.Superscript Mark.Circumflex (lit≤ tt) p n r m q k u (rw (t, u) at rest))
-      (λ u. given (Kept s p) (rw (t, u) at rest) k)))
+      by-parts _ _ e (λ n r first rest. scripts-kept p n r m q (singles p n r h first) (scriptOf (r .peek .token)) refl rest)
 
 -- ---- at any depth
 

@@ -35,7 +35,7 @@ use Rattle.parser.specs.declared.Fence.{Fence}
 use Rattle.parser.specs.declared.Pair.{Pair}
 use Rattle.parser.specs.Parse.{Parsed, build, binomial, ofPair, grouped, stretchLeaf, stretch, opened}
 use Rattle.parser.specs.Marks.{fence}
-use Rattle.parser.specs.Built.{Builds, BuildsNone, BuildsOne, BuildsTwo, BuildsRow, nodeRecord}
+use Rattle.parser.specs.Built.{Builds, BuildsNone, BuildsOne, BuildsTwo, BuildsThree, BuildsRow, nodeRecord}
 
 -- r is the last of k records made since the state p
 abbrev pub Done : Parser → ℕ → ParsedNode → Type 0
@@ -112,6 +112,10 @@ module _ {st st₁ : List ℕ} {r : ParsedNode} (p : Parser) (done : Done p 1 r)
   pub two-made : (k : Two) (a b : ℕ) → Put st st₁ (p .made) (nodeRecord (twoFields k) a b 0) → a < p .made → b < p .made
       → BuildsTwo st st₁ p a b (λ m n. build 1 (two k m n) p) r
   two-made k a b u la lb lo m n g ha hb = built-one lo p (two k m n) u (two-held lo k m n u ha la hb lb) done
+
+  pub three-made : (k : Three) (a b c : ℕ) → Put st st₁ (p .made) (nodeRecord (threeFields k) a b c) → a < p .made → b < p .made → c < p .made
+      → BuildsThree st st₁ p a b c (λ m n o. build 1 (three k m n o) p) r
+  three-made k a b c u la lb lc lo m n o g ha hb hc = built-one lo p (three k m n o) u (three-held lo k m n o u ha la hb lb hc lc) done
 
   row-made : (f n : ℕ) → Put st st₁ (p .made) (nodeRecord (fields (Shape.Row n)) f 0 0) → BuildsRow st st₁ p f n (λ ns. build 1 (row ns) p) r
   row-made f n u lo before last ns h e = built-one lo p (row ns) u (row-held lo f before last ns u h e) done

@@ -26,11 +26,13 @@ use Rattle.ast.specs.Tree.{Node, leaf, one, two, three, row, matrix, Nodes, emp
 use Rattle.ast.proofs.PlainLaws.{leafPlain, onePlain, TreePlain, AllPlain, snoc-plain, variant-plain}
 use Rattle.attribute.specs.declared.Variant.{Variant}
 use Rattle.parser.specs.declared.Parser.{Parser}
+use Rattle.parser.specs.declared.Script.{Script}
 use Rattle.parser.specs.declared.Environment.{Environment}
 use Rattle.parser.specs.declared.Pair.{Pair}
 use Rattle.parser.specs.declared.Limits.{Limits}
 use Rattle.parser.specs.State.{startsWithDigit, following, next, new, curIs, peekIs, pastLetters, parseText}
-use Rattle.parser.specs.Parse.{Parsed, made, refused, Reads, _>>=_, build, grouped, groupUpTo, parseGroup, parseSqrt, binomial, ofPair, parseTwo, parseOne, parseBrace, operator, withBelow, withAbove, withBoth, parseLimits, parseLim, parseSlashed, parseStyle, withFence, fenced, parseLeft, stretchLeaf, stretch, stretched, parseMiddle, sized, parseBig, opened, inEnvironment, parseBegin, parseTextLeaf, parseBare, primed, singleStep, script, nodeStep, parseNode, parseSingleNode, nodesUpTo, parse}
+use Rattle.parser.specs.Marks.{scriptOf, repeats}
+use Rattle.parser.specs.Parse.{Parsed, made, refused, Reads, _>>=_, build, grouped, groupUpTo, parseGroup, parseSqrt, binomial, ofPair, parseTwo, parseOne, parseBrace, operator, withBelow, withAbove, withBoth, parseLimits, parseLim, parseSlashed, parseStyle, withFence, fenced, parseLeft, stretchLeaf, stretch, stretched, parseMiddle, sized, parseBig, opened, inEnvironment, parseBegin, parseTextLeaf, parseBare, primed, singleStep, subSup, bothScripts, parseSecond, parseScripts, nodeStep, parseNode, parseSingleNode, nodesUpTo, parse}
 
 -- ---- the state
 
@@ -341,17 +343,32 @@ module _ (s : List ℕ) (body : plain s ≡ true) {node single : Reads} (nodes :
       behind _ _ (bare p i (p .cur .token) (i .cur))
       (λ n q x y. either (peekIs q Mark.Prime) _ _ (built 2 _ _ (x, refl) (on y)) (fine n q x y))
 
-  scripted : (kind : Two) (n : Node) (p : Parser) → TreePlain n → StatePlain p → Fine TreePlain (script node s kind n p)
-  unfolding script
-  scripted kind n p h i = behind _ _ (nodes (next s (next s p)) (on (on i))) (λ m q x y. built 1 _ _ (h, x) y)
+  sub-sup-plain : (over : Bool) (a b c : Node) → TreePlain a → TreePlain b → TreePlain c → TreePlain (subSup over a b c)
+  unfolding subSup
+  sub-sup-plain true a b c x y z = (x, z, y)
+  sub-sup-plain false a b c x y z = (x, y, z)
 
-  node-step : Plains (nodeStep node single s)
+  both-scripts : (script : Script) (n : Node) (p : Parser) → TreePlain n → StatePlain p → Fine TreePlain (bothScripts script n p)
+  unfolding bothScripts
+  both-scripts Script.Neither n p h i = built 1 _ _ h i
+  both-scripts (Script.Operand again) n p h i = nothing _
+
+  second : (over : Bool) (script : Script) (n m : Node) (p : Parser) → TreePlain n → TreePlain m → StatePlain p → Fine TreePlain (parseSecond single s over script n m p)
+  unfolding parseSecond
+  second over Script.Neither n m p h k i = built 1 _ _ (h, k) i
+  second over (Script.Operand again) n m p h k i =
+      either (repeats over again) _ _ (nothing _)
+      (behind _ _ (singles (next s (next s p)) (on (on i))) (λ o q x y. both-scripts (scriptOf (q .peek .token)) _ q (sub-sup-plain over n m o h k x) y))
+
+  scripts : (script : Script) (n : Node) (p : Parser) → TreePlain n → StatePlain p → Fine TreePlain (parseScripts single s script n p)
+  unfolding parseScripts
+  scripts Script.Neither n p h i = fine n p h i
+  scripts (Script.Operand over) n p h i =
+      behind _ _ (singles (next s (next s p)) (on (on i))) (λ m q x y. second over (scriptOf (q .peek .token)) n m q h x y)
+
+  node-step : Plains (nodeStep single s)
   unfolding nodeStep
-  node-step p i =
-      behind _ _ (singles p i)
-      (λ n q x y.
-      either (peekIs q Mark.Underscore) _ _ (scripted Two.Subscript n q x y)
-      (either (peekIs q Mark.Circumflex) _ _ (scripted Two.Superscript n q x y) (fine n q x y)))
+  node-step p i = behind _ _ (singles p i) (λ n q x y. scripts (scriptOf (q .peek .token)) n q x y)
 
   -- the nodes up to the end
   nodes-go : (k : ℕ) (p : Parser) (ns : Nodes) → AllPlain ns → StatePlain p → Fine AllPlain (nodesUpTo node s k p ns)

@@ -1,7 +1,7 @@
 -- What the parser's functions do in the store.
 -- Assumes nothing.
 use mathlib.Core.Path.{_≡_}
-use mathlib.Core.Bool.{true}
+use mathlib.Core.Bool.{Bool, true, false}
 use mathlib.Core.List.{List}
 use Prim.Native.Nat.{ℕ, _+_, _*_, _^_, _≤_, _<_}
 use lib.ListN.{length}
@@ -15,7 +15,8 @@ use Rattle.ast.specs.Held.{count, holds, holdsAll}
 use Rattle.parser.specs.declared.Parser.{Parser}
 use Rattle.parser.specs.declared.ParsedNode.{ParsedNode}
 use Rattle.parser.specs.State.{peekIs}
-use Rattle.parser.specs.Parse.{Parsed, made, refused}
+use Rattle.parser.specs.declared.Limits.{Limits}
+use Rattle.parser.specs.Parse.{Parsed, made, refused, Reads, withBelow, withAbove, withBoth}
 use Rattle.parser.specs.Sound.{Sound, idle}
 
 -- the node at i and the state q are what the definition wants; the tree stands in st′ with its records from lo on, and no record made
@@ -32,7 +33,7 @@ abbrev pub Builds : List ℕ → List ℕ → ℕ → Parser → Parsed Node →
 Builds st st′ lo p want (ParsedNode.Node i q) = Built st st′ lo p want i q
 Builds st st′ lo p want (ParsedNode.Refused r) = want ≡ refused r
 
--- .. of one that has read no node, one node, which is at a, and two nodes, which are at a and b
+-- .. of one that has read no node; one node, which is at a; two nodes, which are at a and b; and three, the last at c
 abbrev pub BuildsNone : List ℕ → List ℕ → Parser → Parsed Node → ParsedNode → Type 0
 BuildsNone st st′ p want r = (lo : ℕ) → lo ≤ p .made → Builds st st′ lo p want r
 
@@ -41,6 +42,10 @@ BuildsOne st st′ p a want r = (lo : ℕ) (n : Node) → lo ≤ p .made → hol
 
 abbrev pub BuildsTwo : List ℕ → List ℕ → Parser → ℕ → ℕ → (Node → Node → Parsed Node) → ParsedNode → Type 0
 BuildsTwo st st′ p a b want r = (lo : ℕ) (m n : Node) → lo ≤ p .made → holds st lo a m → holds st lo b n → Builds st st′ lo p (want m n) r
+
+abbrev pub BuildsThree : List ℕ → List ℕ → Parser → ℕ → ℕ → ℕ → (Node → Node → Node → Parsed Node) → ParsedNode → Type 0
+BuildsThree st st′ p a b c want r =
+    (lo : ℕ) (m n o : Node) → lo ≤ p .made → holds st lo a m → holds st lo b n → holds st lo c o → Builds st st′ lo p (want m n o) r
 
 -- .. of one that has read the nodes from `first` on
 abbrev pub BuildsRow : List ℕ → List ℕ → Parser → ℕ → ℕ → (Nodes → Parsed Node) → ParsedNode → Type 0
@@ -65,16 +70,33 @@ pub record Free (st : List ℕ) (p : Parser) (k : ℕ) : Type 0 where
   pub fits : (p .made + k) * 24 ≤ length st
   pub small : p .made + k ≤ 65536
 
--- the table is lent, and `cap` records, which suffice from the state p on
-pub record Ready (tab s st : List ℕ) (p : Parser) : Type 0 where
+-- the table is lent, and `cap` records, of which k more than two for each byte from `at` on are left in the state p
+pub record Spare (tab s st : List ℕ) (p : Parser) (at k : ℕ) : Type 0 where
   pub table : tab ≡ rows
   pub sound : Sound s p
   pub cap : ℕ
-  pub room : p .made + 2 * length s + idle (p .cur) ≤ cap + 2 * p .cur .start
+  pub room : p .made + 2 * length s + k ≤ cap + 2 * at
   pub lent : cap * 24 ≤ length st
   pub small : cap ≤ 65536
   pub long : length s < 2 ^ 32
 
+-- .. which suffice for the node that begins with the current token and all that follows
+abbrev pub Ready : List ℕ → List ℕ → List ℕ → Parser → Type 0
+Ready tab s st p = Spare tab s st p (p .cur .start) (idle (p .cur))
+
+-- .. behind the current token, where a node ends
+abbrev pub Ends : List ℕ → List ℕ → List ℕ → Parser → ℕ → Type 0
+Ends tab s st p k = Spare tab s st p (p .cur .end) k
+
 -- where a prime is next, two records more can be made
 abbrev pub Primed : List ℕ → Parser → Type 0
 Primed st p = peekIs p Mark.Prime ≡ true → Free st p 2
+
+-- an operator with a limit above or below, and with a second one at the other place
+abbrev pub withLimit : Bool → Limits → Node → Reads
+withLimit true kind over = withAbove kind over
+withLimit false kind under = withBelow kind under
+
+abbrev pub withLimits : Bool → Limits → Node → Node → Reads
+withLimits true kind over under = withBoth kind under over
+withLimits false kind under over = withBoth kind under over

@@ -10,17 +10,14 @@ use Rattle.token.specs.declared.Undefined.{Undefined}
 use Rattle.token.specs.Roles.{tokenIs}
 use Rattle.ast.specs.declared.Leaf.{Leaf}
 use Rattle.ast.specs.declared.Two.{Two}
-use Rattle.ast.specs.Tree.{Node}
 use Rattle.parser.specs.declared.Fence.{Fence}
 use Rattle.parser.specs.declared.Script.{Script}
-use Rattle.parser.specs.declared.Limits.{Limits}
-use Rattle.parser.specs.Parse.{Reads, withBelow, withAbove, withBoth}
 
 unfoldable pub fence : Option ℕ → Fence
 fence none = Fence.Missing
 fence (some t) = Fence.Fixed t
 
--- whether an operand follows a token, and whether it stands above
+-- whether a token is the mark of a script, and whether its operand stands above
 unfoldable pub scriptOf : Token → Script
 scriptOf t =
     elim (tokenIs t Mark.Underscore) [
@@ -32,19 +29,15 @@ abbrev pub scriptKind : Bool → Two
 scriptKind true = Two.Superscript
 scriptKind false = Two.Subscript
 
+-- whether a mark is the one before it again, both by whether their operands stand above
+unfoldable pub repeats : Bool → Bool → Bool
+repeats true again = again
+repeats false again = not again
+
 -- the mark of the other limit
 abbrev pub otherLimit : Bool → Mark
 otherLimit true = Mark.Underscore
 otherLimit false = Mark.Circumflex
-
--- an operator with a limit above or below, and with a second one at the other place
-abbrev pub withLimit : Bool → Limits → Node → Reads
-withLimit true kind over = withAbove kind over
-withLimit false kind under = withBelow kind under
-
-abbrev pub withLimits : Bool → Limits → Node → Node → Reads
-withLimits true kind over under = withBoth kind under over
-withLimits false kind under over = withBoth kind under over
 
 -- the leaf that a token is by itself; a token with operands is none
 unfoldable pub leafOf : Token → Leaf

@@ -1,7 +1,7 @@
 -- The parser: the Rust's parse.rs, arm by arm. A step takes the functions of the level below, `node` for parse_node and
 -- `single` for parse_single_node; the depth left falls from level to level.
 -- Assumes nothing.
-use mathlib.Core.Bool.{true, false}
+use mathlib.Core.Bool.{Bool, true, false}
 use mathlib.Core.List.{List}
 use mathlib.Core.Option.{Option, none, some}
 use Prim.Native.Nat.{ℕ, zero, suc, _+_}
@@ -30,8 +30,10 @@ use Rattle.parser.specs.declared.TextRead.{TextRead}
 use Rattle.parser.specs.declared.Environment.{Environment}
 use Rattle.parser.specs.declared.Pair.{Pair}
 use Rattle.parser.specs.declared.Limits.{Limits}
+use Rattle.parser.specs.declared.Script.{Script}
 use Rattle.parser.specs.State.{next, new, curIs, peekIs, parseText}
 use Rattle.parser.specs.Environment.{environment}
+use Rattle.parser.specs.Marks.{scriptOf, scriptKind, repeats}
 
 -- what a function of the parser gives: a value and the state after it, or a refusal
 pub data Parsed (A : Type 0) : Type 0 where
@@ -337,25 +339,44 @@ singleStep node single s p = do
   (n, q) ← parseBare node single s (p .cur .token) p
   primed s n q
 
--- a script's operand is a whole node
-unfoldable pub script : Reads → List ℕ → Two → Node → Reads
-script node s kind left p = do
-  (right, q) ← node (next s (next s p))
-  build 1 (two kind left right) q
+-- a base with both scripts, of which the first is the one above or the one below
+unfoldable pub subSup : Bool → Node → Node → Node → Node
+subSup true base sup sub = three Three.SubSup base sub sup
+subSup false base sub sup = three Three.SubSup base sub sup
 
-unfoldable pub nodeStep : Reads → Reads → List ℕ → Reads
-nodeStep node single s p = do
-  (left, q) ← single p
-  elim (peekIs q Mark.Underscore) [
-    | true ↦ script node s Two.Subscript left q
-    | false ↦ elim (peekIs q Mark.Circumflex) [ true ↦ script node s Two.Superscript left q | false ↦ made left q ]
-  ]
+-- a base that has both scripts: any mark behind them is a repeated one
+unfoldable pub bothScripts : Script → Node → Reads
+bothScripts Script.Neither n p = build 1 n p
+bothScripts (Script.Operand again) n p = refused Refusal.RepeatedMark
+
+-- a base that has one script, above or below: the same mark behind it is a repeated one, the other begins the second script
+unfoldable pub parseSecond : Reads → List ℕ → Bool → Script → Node → Node → Reads
+parseSecond single s over Script.Neither base first p = build 1 (two (scriptKind over) base first) p
+parseSecond single s over (Script.Operand again) base first p =
+    elim (repeats over again) [
+      | true ↦ refused Refusal.RepeatedMark
+      | false ↦ do
+        (second, q) ← single (next s (next s p))
+        bothScripts (scriptOf (q .peek .token)) (subSup over base first second) q
+    ]
+
+-- a base with the scripts behind it, of which each operand is one single node
+unfoldable pub parseScripts : Reads → List ℕ → Script → Node → Reads
+parseScripts single s Script.Neither base p = made base p
+parseScripts single s (Script.Operand over) base p = do
+  (first, q) ← single (next s (next s p))
+  parseSecond single s over (scriptOf (q .peek .token)) base first q
+
+unfoldable pub nodeStep : Reads → List ℕ → Reads
+nodeStep single s p = do
+  (base, q) ← single p
+  parseScripts single s (scriptOf (q .peek .token)) base q
 
 -- with no depth left a call is refused, else it has one level less for its own calls
 unfoldable mutual
   pub parseNode : ℕ → List ℕ → Reads
   parseNode zero s p = refused Refusal.TooDeep
-  parseNode (suc d) s p = nodeStep (λ q. parseNode d s q) (λ q. parseSingleNode d s q) s p
+  parseNode (suc d) s p = nodeStep (λ q. parseSingleNode d s q) s p
 
   pub parseSingleNode : ℕ → List ℕ → Reads
   parseSingleNode zero s p = refused Refusal.TooDeep

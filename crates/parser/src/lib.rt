@@ -49,7 +49,7 @@ pub enum Fence {
     Fixed(u32),
 }
 
-// Whether an operand follows a token, and whether it stands above.
+// Whether a token is the mark of a script, and whether its operand stands above.
 pub enum Script {
     Neither,
     Operand(bool),

@@ -5,8 +5,10 @@ use crate::Limits;
 use crate::Pair;
 use crate::ParsedNode;
 use crate::Parser;
+use crate::Script;
 use crate::marks::fence_of;
 use crate::marks::paren_of;
+use crate::marks::script_of;
 use ast::Fields;
 use ast::Leaf;
 use ast::One;
@@ -31,9 +33,9 @@ ghost use Rattle.token.specs.Roles.{parenOf};
 ghost use Rattle.ast.specs.Shape.{Placed};
 ghost use Rattle.ast.specs.Store.{Put};
 ghost use Rattle.ast.specs.Tree.{leaf, one, two, three};
-ghost use Rattle.parser.specs.Parse.{build, grouped, ofPair, operator, withBelow, withAbove, withBoth, fenced, stretch, stretched, sized, opened, inEnvironment};
-ghost use Rattle.parser.specs.Marks.{withLimit, withLimits};
-ghost use Rattle.parser.specs.Built.{nodeRecord, Free, BuildsNone, BuildsOne, BuildsTwo, BuildsRow};
+ghost use Rattle.parser.specs.Parse.{build, grouped, ofPair, operator, withBelow, withAbove, withBoth, fenced, stretch, stretched, sized, opened, inEnvironment, subSup, bothScripts};
+ghost use Rattle.parser.specs.Marks.{scriptOf};
+ghost use Rattle.parser.specs.Built.{nodeRecord, Free, BuildsNone, BuildsOne, BuildsTwo, BuildsThree, BuildsRow, withLimit, withLimits};
 
 // Puts a node of which the numbers are f, with its parts, at an index.
 fn put_node(store: &mut [u8], i: usize, f: Fields, a: usize, b: usize, c: usize)
@@ -92,6 +94,53 @@ pub fn make_two(store: &mut [u8], p: Parser, k: Two, a: usize, b: usize) -> Pars
 {
     put_node(store, p.made, codes::two_fields(k), a, b, 0);
     done(p, 1)
+}
+
+// A node with three parts.
+fn make_three(store: &mut [u8], p: Parser, k: Three, a: usize, b: usize, c: usize) -> ParsedNode
+    requires { ⌜ Free (now store) p 1 × (a < p .made) × (b < p .made) × (c < p .made) ⌝ }
+    ensures { λ r. ⌜ BuildsThree (now (store .entry)) (now (store .exit)) p a b c (λ m n o. build 1 (three k m n o) p) r ⌝ }
+{
+    put_node(store, p.made, codes::three_fields(k), a, b, c);
+    done(p, 1)
+}
+
+// A base with both scripts, of which x was read first and stands above or below.
+fn make_sub_sup(
+    store: &mut [u8],
+    p: Parser,
+    over: bool,
+    base: usize,
+    x: usize,
+    y: usize,
+) -> ParsedNode
+    requires { ⌜ Free (now store) p 1 × (base < p .made) × (x < p .made) × (y < p .made) ⌝ }
+    ensures { λ r. ⌜ BuildsThree (now (store .entry)) (now (store .exit)) p base x y (λ m n o. build 1 (subSup over m n o) p) r ⌝ }
+{
+    if over {
+        return make_three(store, p, Three::SubSup, base, y, x);
+    }
+    make_three(store, p, Three::SubSup, base, x, y)
+}
+
+// .. unless a mark is next, which repeats one of the two.
+pub fn make_scripts(
+    store: &mut [u8],
+    p: Parser,
+    over: bool,
+    base: usize,
+    x: usize,
+    y: usize,
+) -> ParsedNode
+    requires { ⌜ Free (now store) p 1 × (base < p .made) × (x < p .made) × (y < p .made) ⌝ }
+    ensures { λ r. ⌜ BuildsThree (now (store .entry)) (now (store .exit)) p base x y (λ m n o. bothScripts (scriptOf (p .peek .token)) (subSup over m n o) p) r ⌝ }
+{
+    let peek = p.peek;
+    let token = peek.token;
+    match script_of(token) {
+        Script::Neither => make_sub_sup(store, p, over, base, x, y),
+        Script::Operand(_) => ParsedNode::Refused(Refusal::RepeatedMark),
+    }
 }
 
 // A node whose first part is a leaf.

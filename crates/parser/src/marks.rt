@@ -8,7 +8,7 @@ use token::Token;
 use token::Undefined;
 ghost use mathlib.Core.Path.{_≡_};
 ghost use Rattle.token.specs.Roles.{markNumber, parenMark, operatorMark, markOf, tokenIs, parenOf, fenceOf};
-ghost use Rattle.parser.specs.Marks.{fence, scriptOf, scriptKind, otherLimit, leafOf, isDefined, isPutOn, standsAlone};
+ghost use Rattle.parser.specs.Marks.{fence, scriptOf, scriptKind, repeats, otherLimit, leafOf, isDefined, isPutOn, standsAlone};
 
 // The mark of a parenthesis, by its text.
 fn paren_mark(t: u32) -> Mark
@@ -100,7 +100,7 @@ pub fn fence_of(t: Token) -> Fence
     }
 }
 
-// Whether an operand follows a token, and whether it stands above.
+// Whether a token is the mark of a script, and whether its operand stands above.
 pub fn script_of(t: Token) -> Script
     ensures { λ r. ⌜ r ≡ scriptOf t ⌝ }
 {
@@ -121,6 +121,16 @@ pub fn script_kind(over: bool) -> Two
         return Two::Superscript;
     }
     Two::Subscript
+}
+
+// Whether a mark is the one before it again, both by whether their operands stand above.
+pub fn repeats(over: bool, again: bool) -> bool
+    ensures { λ r. ⌜ r ≡ repeats over again ⌝ }
+{
+    if over {
+        return again;
+    }
+    !again
 }
 
 // The mark of the other limit.

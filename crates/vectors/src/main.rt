@@ -6,7 +6,8 @@
 //   M B I D P  what is asked: a body in both displays, in block or in inline; a document; a page
 //   n p l      the expected number of a refusal, and a page's numbers of paragraphs and of those left as typed; 0 where it is left out
 //   s w o      the lengths of the store, the work buffer and the output that are lent; 196,608, 65,536 and 131,072 where it is left out
-//   !          the answer is written by hand from document 01, or put together by its rule for pages, and not the crate's own
+//   !          the answer is written by hand from document 01, or put together by its rule for pages, and not the crate's own;
+//              !2 where document 02 decides it, and it is written by hand or reckoned by its rules
 //
 // Of a body's output the wrapper is left off. In a text a backquote begins one of these: `B and `I are the opening tags of a formula in
 // block and in inline, `3f is the byte with these two hexadecimal digits, and `*2,506; is 506 bytes, each a copy of the one 2 places before.
@@ -28,7 +29,7 @@ ghost use Prim.Native.Nat.{_≤_};
 ghost use lib.ListN.{length};
 ghost use Rattle.vectors.specs.Counts.{AtMost, Grows};
 
-// What was counted: cases, those of them whose answer is from document 01, answers and those of them that differ.
+// What was counted: cases, those of them whose answer is from the documents, answers and those of them that differ.
 pub struct Tally {
     pub cases: u64,
     pub scope: u64,
@@ -138,7 +139,7 @@ fn conclude(tally: Tally) {
     io::print_decimal(STDOUT_FILENO, tally.cases);
     io::write_all(STDOUT_FILENO, b" cases, ");
     io::print_decimal(STDOUT_FILENO, tally.scope);
-    io::write_all(STDOUT_FILENO, b" of them from document 01: ");
+    io::write_all(STDOUT_FILENO, b" of them from the documents: ");
     io::print_decimal(STDOUT_FILENO, tally.answers);
     io::write_all(STDOUT_FILENO, b" answers compared, ");
     io::print_decimal(STDOUT_FILENO, tally.differ);

@@ -45,6 +45,9 @@ enum-told-11 c = search needs
 enum-told-12 : tie.Need-enum-told-12
 enum-told-12 c = search needs
 
+enum-told-13 : tie.Need-enum-told-13
+enum-told-13 c = search needs
+
 returns : tie.Need-returns
 unfolding number
 returns c = sym (ap number ((c .enum-told) .given .1))
@@ -93,6 +96,10 @@ returns-12 : tie.Need-returns-12
 unfolding number
 returns-12 c = sym (ap number ((c .enum-told12) .given .1))
 
+returns-13 : tie.Need-returns-13
+unfolding number
+returns-13 c = sym (ap number ((c .enum-told13) .given .1))
+
 pub number-spec : {M : Type 1} → statement M
 number-spec =
     tie.close
@@ -109,6 +116,7 @@ number-spec =
     enum-told-10
     enum-told-11
     enum-told-12
+    enum-told-13
     returns
     returns-2
     returns-3
@@ -120,4 +128,5 @@ number-spec =
     returns-9
     returns-10
     returns-11
-    returns-12)
+    returns-12
+    returns-13)

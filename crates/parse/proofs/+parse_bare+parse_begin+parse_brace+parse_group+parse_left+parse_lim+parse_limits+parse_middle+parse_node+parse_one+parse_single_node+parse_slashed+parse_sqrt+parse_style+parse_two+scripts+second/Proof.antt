@@ -14,61 +14,67 @@ use Rattle.parser.specs.Sound.{least}
 use Rattle.parser.specs.Marks.{scriptOf, otherLimit}
 use Rattle.parser.proofs.BodyLaws.{node-keeps, single-keeps}
 use Rattle.parser.proofs.MoveLaws.{text-sound}
-use Rattle.parse.proofs.RoomLaws.{Starts, Ends, starts-ready, ready-starts, ready-ends, ends-next, starts-next, ends-mark, starts-text, ends-free, starts-free, node-ends, group-ends, ready-node, ready-free, prime-free, wide-3, next-made, text-made, bare-keeps}
-use Rattle.parse.proofs.SeqLaws.{after-none, only, after-one, first-below, after-two, after-two-swapped, after-set, bare-as}
+use Rattle.parse.proofs.RoomLaws.{may-next, starts-ready, ready-starts, ready-ends, ends-next, starts-next, ends-mark, ends-script, starts-text, ends-free, starts-free, node-ends, group-ends, ready-node, ready-free, prime-free, wide-3, next-made, text-made, bare-keeps}
+use Rattle.parse.proofs.SeqLaws.{after-none, only, after-one, first-below, after-two, after-two-swapped, old-below, beside-one, beside-two, as-two, left-alone, after-set, bare-as}
 use Rattle.parse.proofs.LeafLaws.{bare-leaf, alone-is, leaf-placed}
 use Rattle.parse.proofs.LoopLaws.{loops-none, loops-ready, loops-few, loops-free, more-ends, more-append, more-less}
 use Rattle.parse.proofs.GroupLaws.{GroupLoop, group-end, group-refused, group-closed, group-turns}
-use Rattle.parse.proofs.WayLaws.{one-no, one-is, style-no, style-is, middle-no, middle-is, two-no, two-no-2, two-is, brace-no, brace-bare, brace-no-2, brace-is, sqrt-no, sqrt-is, root-no, root-no-2, root-is, slashed-no, slashed-is, fence-none, fence-some, left-no, left-no-2, left-is, begin-no, begin-is, script-mark, scriptMark, node-no, node-bare, script-no, script-is, limits-alone, limits-no, limit-is, limits-no-2, limits-is, lim-alone, lim-no, lim-is, node-few, single-zero, node-more, single-more, bare-no, bare-is, group-is, script-byte, other-byte}
+use Rattle.parse.proofs.WayLaws.{one-no, one-is, style-no, style-is, middle-no, middle-is, two-no, two-no-2, two-is, brace-no, brace-bare, brace-no-2, brace-is, sqrt-no, sqrt-is, root-no, root-no-2, root-is, slashed-no, slashed-is, fence-none, fence-some, left-no, left-no-2, left-is, begin-no, begin-is, node-no, node-is, scripts-none, scripts-no, scripts-is, second-none, second-again, second-no, second-is, limits-alone, limits-no, limit-is, limits-no-2, limits-is, lim-alone, lim-no, lim-is, node-few, single-zero, node-more, single-more, bare-no, bare-is, group-is, other-byte}
 use borrow.Author.Needs.{needs}
 use native.Mathlib.Omega.{arith}
-use borrow.Fn.Kinds.{In}
 use borrow.Fn.PlainCycle.{Measures, is, falls, and}
+use borrow.Fn.Kinds.{In}
 use Rattle.parse.proofs.parse_bare.Reads as parse-bare
 use Rattle.parse.proofs.parse_bare.Kinds as parse-bare-kinds
-use Rattle.parse.proofs.+parse_bare+parse_begin+parse_brace+parse_group+parse_left+parse_lim+parse_limits+parse_middle+parse_node+parse_one+parse_single_node+parse_slashed+parse_sqrt+parse_style+parse_two.Lts-parse_bare as parse-bare-lts
+use Rattle.parse.proofs.+parse_bare+parse_begin+parse_brace+parse_group+parse_left+parse_lim+parse_limits+parse_middle+parse_node+parse_one+parse_single_node+parse_slashed+parse_sqrt+parse_style+parse_two+scripts+second.Lts-parse_bare as parse-bare-lts
 use Rattle.parse.proofs.parse_begin.Reads as parse-begin
 use Rattle.parse.proofs.parse_begin.Kinds as parse-begin-kinds
-use Rattle.parse.proofs.+parse_bare+parse_begin+parse_brace+parse_group+parse_left+parse_lim+parse_limits+parse_middle+parse_node+parse_one+parse_single_node+parse_slashed+parse_sqrt+parse_style+parse_two.Lts-parse_begin as parse-begin-lts
+use Rattle.parse.proofs.+parse_bare+parse_begin+parse_brace+parse_group+parse_left+parse_lim+parse_limits+parse_middle+parse_node+parse_one+parse_single_node+parse_slashed+parse_sqrt+parse_style+parse_two+scripts+second.Lts-parse_begin as parse-begin-lts
 use Rattle.parse.proofs.parse_brace.Reads as parse-brace
 use Rattle.parse.proofs.parse_brace.Kinds as parse-brace-kinds
-use Rattle.parse.proofs.+parse_bare+parse_begin+parse_brace+parse_group+parse_left+parse_lim+parse_limits+parse_middle+parse_node+parse_one+parse_single_node+parse_slashed+parse_sqrt+parse_style+parse_two.Lts-parse_brace as parse-brace-lts
+use Rattle.parse.proofs.+parse_bare+parse_begin+parse_brace+parse_group+parse_left+parse_lim+parse_limits+parse_middle+parse_node+parse_one+parse_single_node+parse_slashed+parse_sqrt+parse_style+parse_two+scripts+second.Lts-parse_brace as parse-brace-lts
 use Rattle.parse.proofs.parse_group.Reads as parse-group
 use Rattle.parse.proofs.parse_group.Kinds as parse-group-kinds
-use Rattle.parse.proofs.+parse_bare+parse_begin+parse_brace+parse_group+parse_left+parse_lim+parse_limits+parse_middle+parse_node+parse_one+parse_single_node+parse_slashed+parse_sqrt+parse_style+parse_two.Lts-parse_group as parse-group-lts
+use Rattle.parse.proofs.+parse_bare+parse_begin+parse_brace+parse_group+parse_left+parse_lim+parse_limits+parse_middle+parse_node+parse_one+parse_single_node+parse_slashed+parse_sqrt+parse_style+parse_two+scripts+second.Lts-parse_group as parse-group-lts
 use Rattle.parse.proofs.parse_left.Reads as parse-left
 use Rattle.parse.proofs.parse_left.Kinds as parse-left-kinds
-use Rattle.parse.proofs.+parse_bare+parse_begin+parse_brace+parse_group+parse_left+parse_lim+parse_limits+parse_middle+parse_node+parse_one+parse_single_node+parse_slashed+parse_sqrt+parse_style+parse_two.Lts-parse_left as parse-left-lts
+use Rattle.parse.proofs.+parse_bare+parse_begin+parse_brace+parse_group+parse_left+parse_lim+parse_limits+parse_middle+parse_node+parse_one+parse_single_node+parse_slashed+parse_sqrt+parse_style+parse_two+scripts+second.Lts-parse_left as parse-left-lts
 use Rattle.parse.proofs.parse_lim.Reads as parse-lim
 use Rattle.parse.proofs.parse_lim.Kinds as parse-lim-kinds
-use Rattle.parse.proofs.+parse_bare+parse_begin+parse_brace+parse_group+parse_left+parse_lim+parse_limits+parse_middle+parse_node+parse_one+parse_single_node+parse_slashed+parse_sqrt+parse_style+parse_two.Lts-parse_lim as parse-lim-lts
+use Rattle.parse.proofs.+parse_bare+parse_begin+parse_brace+parse_group+parse_left+parse_lim+parse_limits+parse_middle+parse_node+parse_one+parse_single_node+parse_slashed+parse_sqrt+parse_style+parse_two+scripts+second.Lts-parse_lim as parse-lim-lts
 use Rattle.parse.proofs.parse_limits.Reads as parse-limits
 use Rattle.parse.proofs.parse_limits.Kinds as parse-limits-kinds
-use Rattle.parse.proofs.+parse_bare+parse_begin+parse_brace+parse_group+parse_left+parse_lim+parse_limits+parse_middle+parse_node+parse_one+parse_single_node+parse_slashed+parse_sqrt+parse_style+parse_two.Lts-parse_limits as parse-limits-lts
+use Rattle.parse.proofs.+parse_bare+parse_begin+parse_brace+parse_group+parse_left+parse_lim+parse_limits+parse_middle+parse_node+parse_one+parse_single_node+parse_slashed+parse_sqrt+parse_style+parse_two+scripts+second.Lts-parse_limits as parse-limits-lts
 use Rattle.parse.proofs.parse_middle.Reads as parse-middle
 use Rattle.parse.proofs.parse_middle.Kinds as parse-middle-kinds
-use Rattle.parse.proofs.+parse_bare+parse_begin+parse_brace+parse_group+parse_left+parse_lim+parse_limits+parse_middle+parse_node+parse_one+parse_single_node+parse_slashed+parse_sqrt+parse_style+parse_two.Lts-parse_middle as parse-middle-lts
+use Rattle.parse.proofs.+parse_bare+parse_begin+parse_brace+parse_group+parse_left+parse_lim+parse_limits+parse_middle+parse_node+parse_one+parse_single_node+parse_slashed+parse_sqrt+parse_style+parse_two+scripts+second.Lts-parse_middle as parse-middle-lts
 use Rattle.parse.proofs.parse_node.Reads as parse-node
 use Rattle.parse.proofs.parse_node.Kinds as parse-node-kinds
-use Rattle.parse.proofs.+parse_bare+parse_begin+parse_brace+parse_group+parse_left+parse_lim+parse_limits+parse_middle+parse_node+parse_one+parse_single_node+parse_slashed+parse_sqrt+parse_style+parse_two.Lts-parse_node as parse-node-lts
+use Rattle.parse.proofs.+parse_bare+parse_begin+parse_brace+parse_group+parse_left+parse_lim+parse_limits+parse_middle+parse_node+parse_one+parse_single_node+parse_slashed+parse_sqrt+parse_style+parse_two+scripts+second.Lts-parse_node as parse-node-lts
 use Rattle.parse.proofs.parse_one.Reads as parse-one
 use Rattle.parse.proofs.parse_one.Kinds as parse-one-kinds
-use Rattle.parse.proofs.+parse_bare+parse_begin+parse_brace+parse_group+parse_left+parse_lim+parse_limits+parse_middle+parse_node+parse_one+parse_single_node+parse_slashed+parse_sqrt+parse_style+parse_two.Lts-parse_one as parse-one-lts
+use Rattle.parse.proofs.+parse_bare+parse_begin+parse_brace+parse_group+parse_left+parse_lim+parse_limits+parse_middle+parse_node+parse_one+parse_single_node+parse_slashed+parse_sqrt+parse_style+parse_two+scripts+second.Lts-parse_one as parse-one-lts
 use Rattle.parse.proofs.parse_single_node.Reads as parse-single-node
 use Rattle.parse.proofs.parse_single_node.Kinds as parse-single-node-kinds
-use Rattle.parse.proofs.+parse_bare+parse_begin+parse_brace+parse_group+parse_left+parse_lim+parse_limits+parse_middle+parse_node+parse_one+parse_single_node+parse_slashed+parse_sqrt+parse_style+parse_two.Lts-parse_single_node as parse-single-node-lts
+use Rattle.parse.proofs.+parse_bare+parse_begin+parse_brace+parse_group+parse_left+parse_lim+parse_limits+parse_middle+parse_node+parse_one+parse_single_node+parse_slashed+parse_sqrt+parse_style+parse_two+scripts+second.Lts-parse_single_node as parse-single-node-lts
 use Rattle.parse.proofs.parse_slashed.Reads as parse-slashed
 use Rattle.parse.proofs.parse_slashed.Kinds as parse-slashed-kinds
-use Rattle.parse.proofs.+parse_bare+parse_begin+parse_brace+parse_group+parse_left+parse_lim+parse_limits+parse_middle+parse_node+parse_one+parse_single_node+parse_slashed+parse_sqrt+parse_style+parse_two.Lts-parse_slashed as parse-slashed-lts
+use Rattle.parse.proofs.+parse_bare+parse_begin+parse_brace+parse_group+parse_left+parse_lim+parse_limits+parse_middle+parse_node+parse_one+parse_single_node+parse_slashed+parse_sqrt+parse_style+parse_two+scripts+second.Lts-parse_slashed as parse-slashed-lts
 use Rattle.parse.proofs.parse_sqrt.Reads as parse-sqrt
 use Rattle.parse.proofs.parse_sqrt.Kinds as parse-sqrt-kinds
-use Rattle.parse.proofs.+parse_bare+parse_begin+parse_brace+parse_group+parse_left+parse_lim+parse_limits+parse_middle+parse_node+parse_one+parse_single_node+parse_slashed+parse_sqrt+parse_style+parse_two.Lts-parse_sqrt as parse-sqrt-lts
+use Rattle.parse.proofs.+parse_bare+parse_begin+parse_brace+parse_group+parse_left+parse_lim+parse_limits+parse_middle+parse_node+parse_one+parse_single_node+parse_slashed+parse_sqrt+parse_style+parse_two+scripts+second.Lts-parse_sqrt as parse-sqrt-lts
 use Rattle.parse.proofs.parse_style.Reads as parse-style
 use Rattle.parse.proofs.parse_style.Kinds as parse-style-kinds
-use Rattle.parse.proofs.+parse_bare+parse_begin+parse_brace+parse_group+parse_left+parse_lim+parse_limits+parse_middle+parse_node+parse_one+parse_single_node+parse_slashed+parse_sqrt+parse_style+parse_two.Lts-parse_style as parse-style-lts
+use Rattle.parse.proofs.+parse_bare+parse_begin+parse_brace+parse_group+parse_left+parse_lim+parse_limits+parse_middle+parse_node+parse_one+parse_single_node+parse_slashed+parse_sqrt+parse_style+parse_two+scripts+second.Lts-parse_style as parse-style-lts
 use Rattle.parse.proofs.parse_two.Reads as parse-two
 use Rattle.parse.proofs.parse_two.Kinds as parse-two-kinds
-use Rattle.parse.proofs.+parse_bare+parse_begin+parse_brace+parse_group+parse_left+parse_lim+parse_limits+parse_middle+parse_node+parse_one+parse_single_node+parse_slashed+parse_sqrt+parse_style+parse_two.Lts-parse_two as parse-two-lts
+use Rattle.parse.proofs.+parse_bare+parse_begin+parse_brace+parse_group+parse_left+parse_lim+parse_limits+parse_middle+parse_node+parse_one+parse_single_node+parse_slashed+parse_sqrt+parse_style+parse_two+scripts+second.Lts-parse_two as parse-two-lts
+use Rattle.parse.proofs.scripts.Reads as scripts
+use Rattle.parse.proofs.scripts.Kinds as scripts-kinds
+use Rattle.parse.proofs.+parse_bare+parse_begin+parse_brace+parse_group+parse_left+parse_lim+parse_limits+parse_middle+parse_node+parse_one+parse_single_node+parse_slashed+parse_sqrt+parse_style+parse_two+scripts+second.Lts-scripts as scripts-lts
+use Rattle.parse.proofs.second.Reads as second
+use Rattle.parse.proofs.second.Kinds as second-kinds
+use Rattle.parse.proofs.+parse_bare+parse_begin+parse_brace+parse_group+parse_left+parse_lim+parse_limits+parse_middle+parse_node+parse_one+parse_single_node+parse_slashed+parse_sqrt+parse_style+parse_two+scripts+second.Lts-second as second-lts
 use Rattle.ast.proofs.rows.append.Reads as append-reads
 use Rattle.ast.proofs.variant.set_variant.Reads as set-variant-reads
 use Rattle.parse.proofs.finish_prime.Reads as finish-prime-reads
@@ -92,16 +98,18 @@ use Rattle.parser.proofs.make.make_limits.Reads as make-limits-reads
 use Rattle.parser.proofs.make.make_one.Reads as make-one-reads
 use Rattle.parser.proofs.make.make_pair.Reads as make-pair-reads
 use Rattle.parser.proofs.make.make_row.Reads as make-row-reads
+use Rattle.parser.proofs.make.make_scripts.Reads as make-scripts-reads
 use Rattle.parser.proofs.make.make_stretched.Reads as make-stretched-reads
 use Rattle.parser.proofs.make.make_two.Reads as make-two-reads
 use Rattle.parser.proofs.marks.fence_of.Reads as fence-of-reads
 use Rattle.parser.proofs.marks.leaf_of.Reads as leaf-of-reads
 use Rattle.parser.proofs.marks.other_limit.Reads as other-limit-reads
+use Rattle.parser.proofs.marks.repeats.Reads as repeats-reads
 use Rattle.parser.proofs.marks.script_kind.Reads as script-kind-reads
 use Rattle.parser.proofs.marks.script_of.Reads as script-of-reads
 use Rattle.parser.proofs.marks.stands_alone.Reads as stands-alone-reads
-use Rattle.parse.proofs.+parse_bare+parse_begin+parse_brace+parse_group+parse_left+parse_lim+parse_limits+parse_middle+parse_node+parse_one+parse_single_node+parse_slashed+parse_sqrt+parse_style+parse_two.{statement}
-use Rattle.parse.proofs.+parse_bare+parse_begin+parse_brace+parse_group+parse_left+parse_lim+parse_limits+parse_middle+parse_node+parse_one+parse_single_node+parse_slashed+parse_sqrt+parse_style+parse_two.Tie.{close}
+use Rattle.parse.proofs.+parse_bare+parse_begin+parse_brace+parse_group+parse_left+parse_lim+parse_limits+parse_middle+parse_node+parse_one+parse_single_node+parse_slashed+parse_sqrt+parse_style+parse_two+scripts+second.{statement}
+use Rattle.parse.proofs.+parse_bare+parse_begin+parse_brace+parse_group+parse_left+parse_lim+parse_limits+parse_middle+parse_node+parse_one+parse_single_node+parse_slashed+parse_sqrt+parse_style+parse_two+scripts+second.Tie.{close}
 
 abbrev μ-parse-bare : Measures 3 parse-bare-kinds.ps ℕ
 μ-parse-bare κs a = 4 * a .1 .1 .1 .0 + 3
@@ -147,6 +155,12 @@ abbrev μ-parse-style : Measures 3 parse-style-kinds.ps ℕ
 
 abbrev μ-parse-two : Measures 3 parse-two-kinds.ps ℕ
 μ-parse-two κs a = 4 * a .1 .1 .1 .0 + 2
+
+abbrev μ-scripts : Measures 3 scripts-kinds.ps ℕ
+μ-scripts κs a = 4 * a .1 .1 .1 .0 + 2
+
+abbrev μ-second : Measures 3 second-kinds.ps ℕ
+μ-second κs a = 4 * a .1 .1 .1 .0 + 1
 
 abbrev parse-bare-at : ℕ → In 3 parse-bare-kinds.ps
 parse-bare-at t =
@@ -285,6 +299,30 @@ abbrev parse-two-below : ℕ → In 3 parse-two-kinds.ps
 parse-two-below t =
     and 3 parse-two-kinds.ps (falls 3 parse-two-kinds.ps _<_ μ-parse-two t) parse-two.Pre
 
+abbrev scripts-at : ℕ → In 3 scripts-kinds.ps
+scripts-at t =
+    and 3 scripts-kinds.ps (is 3 scripts-kinds.ps μ-scripts t) scripts.Pre
+
+abbrev scripts-below : ℕ → In 3 scripts-kinds.ps
+scripts-below t =
+    and
+    3
+    scripts-kinds.ps
+    (falls 3 scripts-kinds.ps _<_ μ-scripts t)
+    scripts.Pre
+
+abbrev second-at : ℕ → In 3 second-kinds.ps
+second-at t =
+    and 3 second-kinds.ps (is 3 second-kinds.ps μ-second t) second.Pre
+
+abbrev second-below : ℕ → In 3 second-kinds.ps
+second-below t =
+    and
+    3
+    second-kinds.ps
+    (falls 3 second-kinds.ps _<_ μ-second t)
+    second.Pre
+
 -- the contracts that parse-bare is proved from
 abbrev parse-bare-calls : ℕ → parse-bare-lts.Claims
 parse-bare-calls t = (parse-sqrt-below t, parse-sqrt.Post, parse-two-below t, parse-two.Post, parse-one-below t, parse-one.Post, parse-brace-below t, parse-brace.Post, parse-limits-below t, parse-limits.Post, parse-lim-below t, parse-lim.Post, parse-slashed-below t, parse-slashed.Post, parse-style-below t, parse-style.Post, parse-group-below t, parse-group.Post, parse-left-below t, parse-left.Post, parse-middle-below t, parse-middle.Post, parse-big-reads.Asked, parse-big-reads.Learnt, parse-begin-below t, parse-begin.Post, parse-operator-name-reads.Asked, parse-operator-name-reads.Learnt, parse-text-reads.Asked, parse-text-reads.Learnt, leaf-of-reads.Asked, leaf-of-reads.Learnt, make-leaf-reads.Asked, make-leaf-reads.Learnt)
@@ -319,7 +357,7 @@ parse-middle-calls t = (next-token-reads.Asked, next-token-reads.Learnt, parse-s
 
 -- the contracts that parse-node is proved from
 abbrev parse-node-calls : ℕ → parse-node-lts.Claims
-parse-node-calls t = (stands-alone-reads.Asked, stands-alone-reads.Learnt, leaf-of-reads.Asked, leaf-of-reads.Learnt, make-leaf-reads.Asked, make-leaf-reads.Learnt, parse-single-node-below t, parse-single-node.Post, script-of-reads.Asked, script-of-reads.Learnt, next-token-reads.Asked, next-token-reads.Learnt, parse-node-below t, parse-node.Post, script-kind-reads.Asked, script-kind-reads.Learnt, make-two-reads.Asked, make-two-reads.Learnt)
+parse-node-calls t = (stands-alone-reads.Asked, stands-alone-reads.Learnt, leaf-of-reads.Asked, leaf-of-reads.Learnt, make-leaf-reads.Asked, make-leaf-reads.Learnt, parse-single-node-below t, parse-single-node.Post, scripts-below t, scripts.Post)
 
 -- the contracts that parse-one is proved from
 abbrev parse-one-calls : ℕ → parse-one-lts.Claims
@@ -344,6 +382,14 @@ parse-style-calls t = (next-token-reads.Asked, next-token-reads.Learnt, parse-no
 -- the contracts that parse-two is proved from
 abbrev parse-two-calls : ℕ → parse-two-lts.Claims
 parse-two-calls t = (next-token-reads.Asked, next-token-reads.Learnt, parse-node-below t, parse-node.Post, make-pair-reads.Asked, make-pair-reads.Learnt)
+
+-- the contracts that scripts is proved from
+abbrev scripts-calls : ℕ → scripts-lts.Claims
+scripts-calls t = (script-of-reads.Asked, script-of-reads.Learnt, next-token-reads.Asked, next-token-reads.Learnt, parse-single-node-below t, parse-single-node.Post, second-below t, second.Post)
+
+-- the contracts that second is proved from
+abbrev second-calls : ℕ → second-lts.Claims
+second-calls t = (script-of-reads.Asked, script-of-reads.Learnt, script-kind-reads.Asked, script-kind-reads.Learnt, make-two-reads.Asked, make-two-reads.Learnt, repeats-reads.Asked, repeats-reads.Learnt, next-token-reads.Asked, next-token-reads.Learnt, parse-single-node-below t, parse-single-node.Post, make-scripts-reads.Asked, make-scripts-reads.Learnt)
 
 parse-bare-enum-told : (t : ℕ) → parse-bare-lts.Need-enum-told (parse-bare-calls t) (parse-bare-at t) parse-bare.Post
 parse-bare-enum-told t c = search needs
@@ -715,11 +761,13 @@ parse-bare-returns-22 t c =
     after-none _ _ ((c .before .before .before .before .before .before .before .before .before .args) .p) ((c .before .before .before .before .before .before .before .before .before .args) .p) _ _ ((c .before .before .make-leaf) .result) refl (rw ((c .before .before .before .leaf-of) .ensures) at ((c .before .before .make-leaf) .ensures)) (bare-leaf (λ q. parseNode ((c .before .before .before .before .before .before .before .before .before .args) .depth) ((c .before .before .before .before .before .before .before .before .before .args) .s .now) q) (λ q. parseSingleNode ((c .before .before .before .before .before .before .before .before .before .args) .depth) ((c .before .before .before .before .before .before .before .before .before .args) .s .now) q) ((c .before .before .before .before .before .before .before .before .before .args) .s .now) (((c .before .before .before .before .before .before .before .before .before .args) .p) .cur .token) ((c .before .before .before .before .before .before .before .before .before .args) .p) ((c .before .before .before .before .before .match) .keys22))
 
 parse-begin-next-token-requires : (t : ℕ) → parse-begin-lts.Need-next-token-requires (parse-begin-calls t) (parse-begin-at t) parse-begin.Post
-parse-begin-next-token-requires t c κs = let n = (c .before .before .pre) .1 .0 in
+parse-begin-next-token-requires t c κs =
+    let n = (c .before .before .pre) .1 .0 in
     (n .sound .peek .inside, n .table)
 
 parse-begin-parse-text-requires : (t : ℕ) → parse-begin-lts.Need-parse-text-requires (parse-begin-calls t) (parse-begin-at t) parse-begin.Post
-parse-begin-parse-text-requires t c κs = let n = (ends-next (ready-ends ((c .before .before .before .pre) .1 .0) ((c .before .before .before .pre) .1 .1)) ((c .next-token) .ensures)) in
+parse-begin-parse-text-requires t c κs =
+    let n = (ends-next (ready-ends ((c .before .before .before .pre) .1 .0) ((c .before .before .before .pre) .1 .1)) ((c .next-token) .ensures)) in
     (n .sound, n .table)
 
 parse-begin-parse-group-requires : (t : ℕ) → parse-begin-lts.Need-parse-group-requires (parse-begin-calls t) (parse-begin-at t) parse-begin.Post
@@ -770,7 +818,8 @@ parse-begin-part-environment-of-end t c =
     omega arith
 
 parse-begin-environment-of-requires : (t : ℕ) → parse-begin-lts.Need-environment-of-requires (parse-begin-calls t) (parse-begin-at t) parse-begin.Post
-parse-begin-environment-of-requires t c κs = (c .before .before .before .before .before .before .before .before .before .before .before .before .before .before .before .pre) .1 .0 .table
+parse-begin-environment-of-requires t c κs =
+    (c .before .before .before .before .before .before .before .before .before .before .before .before .before .before .before .pre) .1 .0 .table
 
 parse-begin-make-environment-requires : (t : ℕ) → parse-begin-lts.Need-make-environment-requires (parse-begin-calls t) (parse-begin-at t) parse-begin.Post
 unfolding markNumber
@@ -798,7 +847,8 @@ parse-begin-returns-2 t c =
     after-one _ _ ((c .before .before .before .before .before .before .before .before .before .before .before .before .before .before .before .before .before .before .before .before .before .args) .p) _ _ _ _ ((text-made ((c .before .before .before .before .before .before .before .before .before .before .before .before .before .before .before .before .before .before .before .before .before .args) .s .now) _ ((c .before .before .before .before .before .before .before .before .before .before .before .before .before .before .before .before .before .parse-text) .ensures)) ∙ (next-made ((c .before .before .before .before .before .before .before .before .before .before .before .before .before .before .before .before .before .before .before .before .before .args) .s .now) ((c .before .before .before .before .before .before .before .before .before .before .before .before .before .before .before .before .before .before .before .before .before .args) .p) ((c .before .before .before .before .before .before .before .before .before .before .before .before .before .before .before .before .before .before .next-token) .ensures))) g _ _ _ _ ((c .before .before .make-environment) .result) ((text-made ((c .before .before .before .before .before .before .before .before .before .before .before .before .before .before .before .before .before .before .before .before .before .args) .s .now) _ ((c .before .before .before .before .before .before .before .parse-text2) .ensures)) ∙ (next-made ((c .before .before .before .before .before .before .before .before .before .before .before .before .before .before .before .before .before .before .before .before .before .args) .s .now) _ ((c .before .before .before .before .before .before .before .before .next-token2) .ensures))) ((c .before .before .make-environment) .ensures) (begin-is (λ q. parseNode ((c .before .before .before .before .before .before .before .before .before .before .before .before .before .before .before .before .before .before .before .before .before .args) .depth) ((c .before .before .before .before .before .before .before .before .before .before .before .before .before .before .before .before .before .before .before .before .before .args) .s .now) q) ((c .before .before .before .before .before .before .before .before .before .before .before .before .before .before .before .before .before .before .before .before .before .args) .s .now) ((c .before .before .before .before .before .before .before .before .before .before .before .before .before .before .before .before .before .before .before .before .before .args) .p) ((c .before .before .before .before .before .before .before .before .before .before .before .before .before .before .before .before .before .before .next-token) .ensures) ((c .before .before .before .before .before .before .before .before .before .before .before .before .before .before .before .before .before .parse-text) .ensures) (g .is) ((c .before .before .before .before .before .before .before .before .next-token2) .ensures) ((c .before .before .before .before .before .before .before .parse-text2) .ensures) ∙ ap (λ x. inEnvironment x (opened (g .tree)) ((c .before .before .before .before .before .before .before .parse-text2) .result .after)) (sym ((c .before .before .before .before .before .environment-of) .ensures)))
 
 parse-brace-next-token-requires : (t : ℕ) → parse-brace-lts.Need-next-token-requires (parse-brace-calls t) (parse-brace-at t) parse-brace.Post
-parse-brace-next-token-requires t c κs = let n = (c .before .before .pre) .1 .0 in
+parse-brace-next-token-requires t c κs =
+    let n = (c .before .before .pre) .1 .0 in
     (n .sound .peek .inside, n .table)
 
 parse-brace-parse-single-node-requires : (t : ℕ) → parse-brace-lts.Need-parse-single-node-requires (parse-brace-calls t) (parse-brace-at t) parse-brace.Post
@@ -895,7 +945,8 @@ parse-group-μ-loop s store₀ depth end table q₀ first₀ last₀ count₀ st
     length s - q .cur .start
 
 parse-group-next-token-requires : (t : ℕ) → parse-group-lts.Need-next-token-requires (parse-group-calls t) (parse-group-at t) parse-group.Post parse-group-Inv-loop parse-group-μ-loop
-parse-group-next-token-requires t c κs = let n = (c .before .before .pre) .1 .0 in
+parse-group-next-token-requires t c κs =
+    let n = (c .before .before .pre) .1 .0 in
     (n .sound .peek .inside, n .table)
 
 parse-group-loop-holds : (t : ℕ) → parse-group-lts.Need-loop-holds (parse-group-calls t) (parse-group-at t) parse-group.Post parse-group-Inv-loop parse-group-μ-loop
@@ -982,7 +1033,8 @@ parse-group-loop-again t c =
     ((c .before .before .before .append) .kept .0 ∙ (c .before .before .before .before .before .before .before .before .before .before .parse-node) .kept .1 .0 ∙ (c .before .before .before .before .before .before .before .before .before .before .before .before .before .before .before .before .loop) .inv .0, group-turns (λ q. parseNode ((c .before .before .before .before .before .before .before .before .before .before .before .before .before .before .before .before .before .before .before .before .args) .depth) ((c .before .before .before .before .before .before .before .before .before .before .before .before .before .before .before .before .before .before .before .before .args) .s .now) q) ((c .before .before .before .before .before .before .before .before .before .before .before .before .before .before .before .before .before .before .before .before .args) .s .now) ((c .before .before .before .before .before .before .before .before .before .before .before .before .before .before .before .before .before .before .before .before .args) .end) ((c .before .before .before .before .before .before .before .before .before .before .before .before .before .before .before .before .loop) .inv .1) (node-keeps ((c .before .before .before .before .before .before .before .before .before .before .before .before .before .before .before .before .before .before .before .before .args) .depth) ((c .before .before .before .before .before .before .before .before .before .before .before .before .before .before .before .before .before .before .before .before .args) .s .now)) (sym ((c .before .before .before .before .before .before .before .before .before .before .before .before .before .before .before .cur-token-is) .ensures) ∙ (c .before .before .before .before .before .before .before .before .before .before .before .before .before .before .if1) .left) ((c .before .before .before .before .before .before .before .before .before .before .parse-node) .kept .1 .0) g _ _ _ ((c .before .before .before .append) .kept .0) (sym ((c .before .before .before .before .before .before .before .before .before .before .before .before .before .cur-token-is2) .ensures) ∙ (c .before .before .before .before .before .before .before .before .before .before .before .before .if2) .left) ((c .before .before .before .append) .ensures) ((c .next-token2) .ensures))
 
 parse-left-next-token-requires : (t : ℕ) → parse-left-lts.Need-next-token-requires (parse-left-calls t) (parse-left-at t) parse-left.Post
-parse-left-next-token-requires t c κs = let n = (c .before .before .pre) .1 .0 in
+parse-left-next-token-requires t c κs =
+    let n = (c .before .before .pre) .1 .0 in
     (n .sound .peek .inside, n .table)
 
 parse-left-fence-of-requires : (t : ℕ) → parse-left-lts.Need-fence-of-requires (parse-left-calls t) (parse-left-at t) parse-left.Post
@@ -1056,11 +1108,13 @@ parse-lim-returns t c =
     after-none _ _ ((c .before .before .before .before .before .before .before .before .args) .p) ((c .before .before .before .before .before .before .before .before .args) .p) _ _ ((c .before .before .make-leaf) .result) refl ((c .before .before .make-leaf) .ensures) (lim-alone (λ q. parseSingleNode ((c .before .before .before .before .before .before .before .before .args) .depth) ((c .before .before .before .before .before .before .before .before .args) .s .now) q) ((c .before .before .before .before .before .before .before .before .args) .s .now) ((c .before .before .before .before .before .before .before .before .args) .p) ((c .before .before .before .before .before .before .before .before .args) .t) (sym ((c .before .before .before .before .before .peek-token-is) .ensures) ∙ not-true _ ((c .before .before .before .before .if1) .taken)))
 
 parse-lim-next-token-requires : (t : ℕ) → parse-lim-lts.Need-next-token-requires (parse-lim-calls t) (parse-lim-at t) parse-lim.Post
-parse-lim-next-token-requires t c κs = let n = (c .before .before .before .before .pre) .1 .0 in
+parse-lim-next-token-requires t c κs =
+    let n = (c .before .before .before .before .pre) .1 .0 in
     (n .sound .peek .inside, n .table)
 
 parse-lim-next-token-requires-2 : (t : ℕ) → parse-lim-lts.Need-next-token-requires-2 (parse-lim-calls t) (parse-lim-at t) parse-lim.Post
-parse-lim-next-token-requires-2 t c κs = let n = (ends-next (ready-ends ((c .before .before .before .before .before .pre) .1 .0) ((c .before .before .before .before .before .pre) .1 .1)) ((c .next-token) .ensures)) in
+parse-lim-next-token-requires-2 t c κs =
+    let n = (ends-next (ready-ends ((c .before .before .before .before .before .pre) .1 .0) ((c .before .before .before .before .before .pre) .1 .1)) ((c .next-token) .ensures)) in
     (n .sound .peek .inside, n .table)
 
 parse-lim-parse-single-node-requires : (t : ℕ) → parse-lim-lts.Need-parse-single-node-requires (parse-lim-calls t) (parse-lim-at t) parse-lim.Post
@@ -1111,18 +1165,20 @@ parse-limits-enum-known-over : (t : ℕ) → parse-limits-lts.Need-enum-known-ov
 parse-limits-enum-known-over t c = search needs
 
 parse-limits-next-token-requires : (t : ℕ) → parse-limits-lts.Need-next-token-requires (parse-limits-calls t) (parse-limits-at t) parse-limits.Post
-parse-limits-next-token-requires t c κs = let n = (c .before .before .before .before .before .before .before .pre) .1 .0 in
+parse-limits-next-token-requires t c κs =
+    let n = (c .before .before .before .before .before .before .before .pre) .1 .0 in
     (n .sound .peek .inside, n .table)
 
 parse-limits-next-token-requires-2 : (t : ℕ) → parse-limits-lts.Need-next-token-requires-2 (parse-limits-calls t) (parse-limits-at t) parse-limits.Post
-parse-limits-next-token-requires-2 t c κs = let n = (ends-next (ready-ends ((c .before .before .before .before .before .before .before .before .pre) .1 .0) ((c .before .before .before .before .before .before .before .before .pre) .1 .1)) ((c .next-token) .ensures)) in
+parse-limits-next-token-requires-2 t c κs =
+    let n = (ends-next (ready-ends ((c .before .before .before .before .before .before .before .before .pre) .1 .0) ((c .before .before .before .before .before .before .before .before .pre) .1 .1)) ((c .next-token) .ensures)) in
     (n .sound .peek .inside, n .table)
 
 parse-limits-parse-single-node-requires :
     (t : ℕ) → parse-limits-lts.Need-parse-single-node-requires (parse-limits-calls t) (parse-limits-at t) parse-limits.Post
 parse-limits-parse-single-node-requires t c κs =
     let m = (c .before .before .before .before .before .before .before .before .before .before .pre) .0 in
-    (omega arith, starts-ready (ends-mark (scriptMark ((c .before .before .before .before .over) .given .0 .0)) (ready-ends ((c .before .before .before .before .before .before .before .before .before .before .pre) .1 .0) ((c .before .before .before .before .before .before .before .before .before .before .pre) .1 .1)) (script-mark _ ((c .before .before .before .before .over) .given .0 .0) (sym ((c .before .before .before .before .before .before .script-of) .ensures) ∙ (c .before .before .before .before .over) .given .1)) (script-byte ((c .before .before .before .before .over) .given .0 .0)) ((c .before .before .next-token) .ensures) ((c .before .next-token2) .ensures)) (omega arith))
+    (omega arith, starts-ready (ends-script ((c .before .before .before .before .over) .given .0 .0) (ready-ends ((c .before .before .before .before .before .before .before .before .before .before .pre) .1 .0) ((c .before .before .before .before .before .before .before .before .before .before .pre) .1 .1)) (sym ((c .before .before .before .before .before .before .script-of) .ensures) ∙ (c .before .before .before .before .over) .given .1) ((c .before .before .next-token) .ensures) ((c .before .next-token2) .ensures)) (omega arith))
 
 parse-limits-enum-known-r : (t : ℕ) → parse-limits-lts.Need-enum-known-r (parse-limits-calls t) (parse-limits-at t) parse-limits.Post
 parse-limits-enum-known-r t c = search needs
@@ -1139,7 +1195,7 @@ parse-limits-peek-token-is-requires t c κs = search needs
 parse-limits-make-limit-requires : (t : ℕ) → parse-limits-lts.Need-make-limit-requires (parse-limits-calls t) (parse-limits-at t) parse-limits.Post
 parse-limits-make-limit-requires t c κs =
     let g = rw ((c .before .before .before .before .before .x) .given .1) at ((c .before .before .before .before .before .before .before .before .before .parse-single-node) .ensures) in
-    (ends-free 2 (node-ends ((c .before .before .before .before .before .before .before .before .before .parse-single-node) .kept .1 .0) 7 (ends-mark (scriptMark ((c .before .before .before .before .before .before .before .before .before .before .before .before .before .before .over) .given .0 .0)) (ready-ends ((c .before .before .before .before .before .before .before .before .before .before .before .before .before .before .before .before .before .before .before .before .pre) .1 .0) ((c .before .before .before .before .before .before .before .before .before .before .before .before .before .before .before .before .before .before .before .before .pre) .1 .1)) (script-mark _ ((c .before .before .before .before .before .before .before .before .before .before .before .before .before .before .over) .given .0 .0) (sym ((c .before .before .before .before .before .before .before .before .before .before .before .before .before .before .before .before .script-of) .ensures) ∙ (c .before .before .before .before .before .before .before .before .before .before .before .before .before .before .over) .given .1)) (script-byte ((c .before .before .before .before .before .before .before .before .before .before .before .before .before .before .over) .given .0 .0)) ((c .before .before .before .before .before .before .before .before .before .before .before .before .next-token) .ensures) ((c .before .before .before .before .before .before .before .before .before .before .before .next-token2) .ensures)) (omega arith) (single-keeps ((c .before .before .before .before .before .before .before .before .before .before .before .before .before .before .before .before .before .before .before .before .args) .depth) ((c .before .before .before .before .before .before .before .before .before .before .before .before .before .before .before .before .before .before .before .before .args) .s .now)) g) (omega arith), g .below)
+    (ends-free 2 (node-ends ((c .before .before .before .before .before .before .before .before .before .parse-single-node) .kept .1 .0) 7 (ends-script ((c .before .before .before .before .before .before .before .before .before .before .before .before .before .before .over) .given .0 .0) (ready-ends ((c .before .before .before .before .before .before .before .before .before .before .before .before .before .before .before .before .before .before .before .before .pre) .1 .0) ((c .before .before .before .before .before .before .before .before .before .before .before .before .before .before .before .before .before .before .before .before .pre) .1 .1)) (sym ((c .before .before .before .before .before .before .before .before .before .before .before .before .before .before .before .before .script-of) .ensures) ∙ (c .before .before .before .before .before .before .before .before .before .before .before .before .before .before .over) .given .1) ((c .before .before .before .before .before .before .before .before .before .before .before .before .next-token) .ensures) ((c .before .before .before .before .before .before .before .before .before .before .before .next-token2) .ensures)) (omega arith) (single-keeps ((c .before .before .before .before .before .before .before .before .before .before .before .before .before .before .before .before .before .before .before .before .args) .depth) ((c .before .before .before .before .before .before .before .before .before .before .before .before .before .before .before .before .before .before .before .before .args) .s .now)) g) (omega arith), g .below)
 
 parse-limits-same-length : (t : ℕ) → parse-limits-lts.Need-same-length (parse-limits-calls t) (parse-limits-at t) parse-limits.Post
 parse-limits-same-length t c = search needs
@@ -1152,13 +1208,13 @@ parse-limits-returns t c =
 parse-limits-next-token-requires-3 : (t : ℕ) → parse-limits-lts.Need-next-token-requires-3 (parse-limits-calls t) (parse-limits-at t) parse-limits.Post
 parse-limits-next-token-requires-3 t c κs =
     let g = rw ((c .before .before .before .before .x) .given .1) at ((c .before .before .before .before .before .before .before .before .parse-single-node) .ensures) in
-    let n = (node-ends ((c .before .before .before .before .before .before .before .before .parse-single-node) .kept .1 .0) 7 (ends-mark (scriptMark ((c .before .before .before .before .before .before .before .before .before .before .before .before .before .over) .given .0 .0)) (ready-ends ((c .before .before .before .before .before .before .before .before .before .before .before .before .before .before .before .before .before .before .before .pre) .1 .0) ((c .before .before .before .before .before .before .before .before .before .before .before .before .before .before .before .before .before .before .before .pre) .1 .1)) (script-mark _ ((c .before .before .before .before .before .before .before .before .before .before .before .before .before .over) .given .0 .0) (sym ((c .before .before .before .before .before .before .before .before .before .before .before .before .before .before .before .script-of) .ensures) ∙ (c .before .before .before .before .before .before .before .before .before .before .before .before .before .over) .given .1)) (script-byte ((c .before .before .before .before .before .before .before .before .before .before .before .before .before .over) .given .0 .0)) ((c .before .before .before .before .before .before .before .before .before .before .before .next-token) .ensures) ((c .before .before .before .before .before .before .before .before .before .before .next-token2) .ensures)) (omega arith) (single-keeps ((c .before .before .before .before .before .before .before .before .before .before .before .before .before .before .before .before .before .before .before .args) .depth) ((c .before .before .before .before .before .before .before .before .before .before .before .before .before .before .before .before .before .before .before .args) .s .now)) g) in
+    let n = (node-ends ((c .before .before .before .before .before .before .before .before .parse-single-node) .kept .1 .0) 7 (ends-script ((c .before .before .before .before .before .before .before .before .before .before .before .before .before .over) .given .0 .0) (ready-ends ((c .before .before .before .before .before .before .before .before .before .before .before .before .before .before .before .before .before .before .before .pre) .1 .0) ((c .before .before .before .before .before .before .before .before .before .before .before .before .before .before .before .before .before .before .before .pre) .1 .1)) (sym ((c .before .before .before .before .before .before .before .before .before .before .before .before .before .before .before .script-of) .ensures) ∙ (c .before .before .before .before .before .before .before .before .before .before .before .before .before .over) .given .1) ((c .before .before .before .before .before .before .before .before .before .before .before .next-token) .ensures) ((c .before .before .before .before .before .before .before .before .before .before .next-token2) .ensures)) (omega arith) (single-keeps ((c .before .before .before .before .before .before .before .before .before .before .before .before .before .before .before .before .before .before .before .args) .depth) ((c .before .before .before .before .before .before .before .before .before .before .before .before .before .before .before .before .before .before .before .args) .s .now)) g) in
     (n .sound .peek .inside, n .table)
 
 parse-limits-next-token-requires-4 : (t : ℕ) → parse-limits-lts.Need-next-token-requires-4 (parse-limits-calls t) (parse-limits-at t) parse-limits.Post
 parse-limits-next-token-requires-4 t c κs =
     let g = rw ((c .before .before .before .before .before .x) .given .1) at ((c .before .before .before .before .before .before .before .before .before .parse-single-node) .ensures) in
-    let n = (ends-next (node-ends ((c .before .before .before .before .before .before .before .before .before .parse-single-node) .kept .1 .0) 7 (ends-mark (scriptMark ((c .before .before .before .before .before .before .before .before .before .before .before .before .before .before .over) .given .0 .0)) (ready-ends ((c .before .before .before .before .before .before .before .before .before .before .before .before .before .before .before .before .before .before .before .before .pre) .1 .0) ((c .before .before .before .before .before .before .before .before .before .before .before .before .before .before .before .before .before .before .before .before .pre) .1 .1)) (script-mark _ ((c .before .before .before .before .before .before .before .before .before .before .before .before .before .before .over) .given .0 .0) (sym ((c .before .before .before .before .before .before .before .before .before .before .before .before .before .before .before .before .script-of) .ensures) ∙ (c .before .before .before .before .before .before .before .before .before .before .before .before .before .before .over) .given .1)) (script-byte ((c .before .before .before .before .before .before .before .before .before .before .before .before .before .before .over) .given .0 .0)) ((c .before .before .before .before .before .before .before .before .before .before .before .before .next-token) .ensures) ((c .before .before .before .before .before .before .before .before .before .before .before .next-token2) .ensures)) (omega arith) (single-keeps ((c .before .before .before .before .before .before .before .before .before .before .before .before .before .before .before .before .before .before .before .before .args) .depth) ((c .before .before .before .before .before .before .before .before .before .before .before .before .before .before .before .before .before .before .before .before .args) .s .now)) g) ((c .next-token3) .ensures)) in
+    let n = (ends-next (node-ends ((c .before .before .before .before .before .before .before .before .before .parse-single-node) .kept .1 .0) 7 (ends-script ((c .before .before .before .before .before .before .before .before .before .before .before .before .before .before .over) .given .0 .0) (ready-ends ((c .before .before .before .before .before .before .before .before .before .before .before .before .before .before .before .before .before .before .before .before .pre) .1 .0) ((c .before .before .before .before .before .before .before .before .before .before .before .before .before .before .before .before .before .before .before .before .pre) .1 .1)) (sym ((c .before .before .before .before .before .before .before .before .before .before .before .before .before .before .before .before .script-of) .ensures) ∙ (c .before .before .before .before .before .before .before .before .before .before .before .before .before .before .over) .given .1) ((c .before .before .before .before .before .before .before .before .before .before .before .before .next-token) .ensures) ((c .before .before .before .before .before .before .before .before .before .before .before .next-token2) .ensures)) (omega arith) (single-keeps ((c .before .before .before .before .before .before .before .before .before .before .before .before .before .before .before .before .before .before .before .before .args) .depth) ((c .before .before .before .before .before .before .before .before .before .before .before .before .before .before .before .before .before .before .before .before .args) .s .now)) g) ((c .next-token3) .ensures)) in
     (n .sound .peek .inside, n .table)
 
 parse-limits-parse-single-node-requires-2 :
@@ -1166,7 +1222,7 @@ parse-limits-parse-single-node-requires-2 :
 parse-limits-parse-single-node-requires-2 t c κs =
     let m = (c .before .before .before .before .before .before .before .before .before .before .before .before .before .before .before .before .before .before .before .before .before .before .pre) .0 in
     let g = rw ((c .before .before .before .before .before .before .before .x) .given .1) at ((c .before .before .before .before .before .before .before .before .before .before .before .parse-single-node) .ensures) in
-    (omega arith, starts-ready (ends-mark (otherLimit ((c .before .before .before .before .before .before .before .before .before .before .before .before .before .before .before .before .over) .given .0 .0)) (node-ends ((c .before .before .before .before .before .before .before .before .before .before .before .parse-single-node) .kept .1 .0) 7 (ends-mark (scriptMark ((c .before .before .before .before .before .before .before .before .before .before .before .before .before .before .before .before .over) .given .0 .0)) (ready-ends ((c .before .before .before .before .before .before .before .before .before .before .before .before .before .before .before .before .before .before .before .before .before .before .pre) .1 .0) ((c .before .before .before .before .before .before .before .before .before .before .before .before .before .before .before .before .before .before .before .before .before .before .pre) .1 .1)) (script-mark _ ((c .before .before .before .before .before .before .before .before .before .before .before .before .before .before .before .before .over) .given .0 .0) (sym ((c .before .before .before .before .before .before .before .before .before .before .before .before .before .before .before .before .before .before .script-of) .ensures) ∙ (c .before .before .before .before .before .before .before .before .before .before .before .before .before .before .before .before .over) .given .1)) (script-byte ((c .before .before .before .before .before .before .before .before .before .before .before .before .before .before .before .before .over) .given .0 .0)) ((c .before .before .before .before .before .before .before .before .before .before .before .before .before .before .next-token) .ensures) ((c .before .before .before .before .before .before .before .before .before .before .before .before .before .next-token2) .ensures)) (omega arith) (single-keeps ((c .before .before .before .before .before .before .before .before .before .before .before .before .before .before .before .before .before .before .before .before .before .before .args) .depth) ((c .before .before .before .before .before .before .before .before .before .before .before .before .before .before .before .before .before .before .before .before .before .before .args) .s .now)) g) (rw ((c .before .before .before .before .before .other-limit) .ensures) at (sym ((c .before .before .before .before .peek-token-is) .ensures) ∙ not-false _ ((c .before .before .before .if1) .left))) (other-byte ((c .before .before .before .before .before .before .before .before .before .before .before .before .before .before .before .before .over) .given .0 .0)) ((c .before .before .next-token3) .ensures) ((c .before .next-token4) .ensures)) (omega arith))
+    (omega arith, starts-ready (ends-mark (otherLimit ((c .before .before .before .before .before .before .before .before .before .before .before .before .before .before .before .before .over) .given .0 .0)) (node-ends ((c .before .before .before .before .before .before .before .before .before .before .before .parse-single-node) .kept .1 .0) 7 (ends-script ((c .before .before .before .before .before .before .before .before .before .before .before .before .before .before .before .before .over) .given .0 .0) (ready-ends ((c .before .before .before .before .before .before .before .before .before .before .before .before .before .before .before .before .before .before .before .before .before .before .pre) .1 .0) ((c .before .before .before .before .before .before .before .before .before .before .before .before .before .before .before .before .before .before .before .before .before .before .pre) .1 .1)) (sym ((c .before .before .before .before .before .before .before .before .before .before .before .before .before .before .before .before .before .before .script-of) .ensures) ∙ (c .before .before .before .before .before .before .before .before .before .before .before .before .before .before .before .before .over) .given .1) ((c .before .before .before .before .before .before .before .before .before .before .before .before .before .before .next-token) .ensures) ((c .before .before .before .before .before .before .before .before .before .before .before .before .before .next-token2) .ensures)) (omega arith) (single-keeps ((c .before .before .before .before .before .before .before .before .before .before .before .before .before .before .before .before .before .before .before .before .before .before .args) .depth) ((c .before .before .before .before .before .before .before .before .before .before .before .before .before .before .before .before .before .before .before .before .before .before .args) .s .now)) g) (rw ((c .before .before .before .before .before .other-limit) .ensures) at (sym ((c .before .before .before .before .peek-token-is) .ensures) ∙ not-false _ ((c .before .before .before .if1) .left))) (other-byte ((c .before .before .before .before .before .before .before .before .before .before .before .before .before .before .before .before .over) .given .0 .0)) ((c .before .before .next-token3) .ensures) ((c .before .next-token4) .ensures)) (omega arith))
 
 parse-limits-enum-known-r-2 : (t : ℕ) → parse-limits-lts.Need-enum-known-r-2 (parse-limits-calls t) (parse-limits-at t) parse-limits.Post
 parse-limits-enum-known-r-2 t c = search needs
@@ -1178,7 +1234,7 @@ parse-limits-make-limits-requires : (t : ℕ) → parse-limits-lts.Need-make-lim
 parse-limits-make-limits-requires t c κs =
     let g = rw ((c .before .before .before .before .before .before .before .before .before .before .before .before .before .before .x) .given .1) at ((c .before .before .before .before .before .before .before .before .before .before .before .before .before .before .before .before .before .before .parse-single-node) .ensures) in
     let h = rw ((c .before .before .y) .given .1) at ((c .before .before .before .before .before .before .parse-single-node2) .ensures) in
-    (ends-free 2 (node-ends ((c .before .before .before .before .before .before .parse-single-node2) .kept .1 .0) 8 (ends-mark (otherLimit ((c .before .before .before .before .before .before .before .before .before .before .before .before .before .before .before .before .before .before .before .before .before .before .before .over) .given .0 .0)) (node-ends ((c .before .before .before .before .before .before .before .before .before .before .before .before .before .before .before .before .before .before .parse-single-node) .kept .1 .0) 7 (ends-mark (scriptMark ((c .before .before .before .before .before .before .before .before .before .before .before .before .before .before .before .before .before .before .before .before .before .before .before .over) .given .0 .0)) (ready-ends ((c .before .before .before .before .before .before .before .before .before .before .before .before .before .before .before .before .before .before .before .before .before .before .before .before .before .before .before .before .before .pre) .1 .0) ((c .before .before .before .before .before .before .before .before .before .before .before .before .before .before .before .before .before .before .before .before .before .before .before .before .before .before .before .before .before .pre) .1 .1)) (script-mark _ ((c .before .before .before .before .before .before .before .before .before .before .before .before .before .before .before .before .before .before .before .before .before .before .before .over) .given .0 .0) (sym ((c .before .before .before .before .before .before .before .before .before .before .before .before .before .before .before .before .before .before .before .before .before .before .before .before .before .script-of) .ensures) ∙ (c .before .before .before .before .before .before .before .before .before .before .before .before .before .before .before .before .before .before .before .before .before .before .before .over) .given .1)) (script-byte ((c .before .before .before .before .before .before .before .before .before .before .before .before .before .before .before .before .before .before .before .before .before .before .before .over) .given .0 .0)) ((c .before .before .before .before .before .before .before .before .before .before .before .before .before .before .before .before .before .before .before .before .before .next-token) .ensures) ((c .before .before .before .before .before .before .before .before .before .before .before .before .before .before .before .before .before .before .before .before .next-token2) .ensures)) (omega arith) (single-keeps ((c .before .before .before .before .before .before .before .before .before .before .before .before .before .before .before .before .before .before .before .before .before .before .before .before .before .before .before .before .before .args) .depth) ((c .before .before .before .before .before .before .before .before .before .before .before .before .before .before .before .before .before .before .before .before .before .before .before .before .before .before .before .before .before .args) .s .now)) g) (rw ((c .before .before .before .before .before .before .before .before .before .before .before .before .other-limit) .ensures) at (sym ((c .before .before .before .before .before .before .before .before .before .before .before .peek-token-is) .ensures) ∙ not-false _ ((c .before .before .before .before .before .before .before .before .before .before .if1) .left))) (other-byte ((c .before .before .before .before .before .before .before .before .before .before .before .before .before .before .before .before .before .before .before .before .before .before .before .over) .given .0 .0)) ((c .before .before .before .before .before .before .before .before .before .next-token3) .ensures) ((c .before .before .before .before .before .before .before .before .next-token4) .ensures)) (omega arith) (single-keeps ((c .before .before .before .before .before .before .before .before .before .before .before .before .before .before .before .before .before .before .before .before .before .before .before .before .before .before .before .before .before .args) .depth) ((c .before .before .before .before .before .before .before .before .before .before .before .before .before .before .before .before .before .before .before .before .before .before .before .before .before .before .before .before .before .args) .s .now)) h) (omega arith), first-below _ _ ((c .before .before .before .before .before .before .before .before .before .before .before .before .before .before .before .before .before .before .before .before .before .before .before .before .before .before .before .before .before .args) .p) _ _ _ _ ((next-made ((c .before .before .before .before .before .before .before .before .before .before .before .before .before .before .before .before .before .before .before .before .before .before .before .before .before .before .before .before .before .args) .s .now) _ ((c .before .before .before .before .before .before .before .before .before .before .before .before .before .before .before .before .before .before .before .before .next-token2) .ensures)) ∙ (next-made ((c .before .before .before .before .before .before .before .before .before .before .before .before .before .before .before .before .before .before .before .before .before .before .before .before .before .before .before .before .before .args) .s .now) ((c .before .before .before .before .before .before .before .before .before .before .before .before .before .before .before .before .before .before .before .before .before .before .before .before .before .before .before .before .before .args) .p) ((c .before .before .before .before .before .before .before .before .before .before .before .before .before .before .before .before .before .before .before .before .before .next-token) .ensures))) g _ _ _ _ _ ((next-made ((c .before .before .before .before .before .before .before .before .before .before .before .before .before .before .before .before .before .before .before .before .before .before .before .before .before .before .before .before .before .args) .s .now) _ ((c .before .before .before .before .before .before .before .before .next-token4) .ensures)) ∙ (next-made ((c .before .before .before .before .before .before .before .before .before .before .before .before .before .before .before .before .before .before .before .before .before .before .before .before .before .before .before .before .before .args) .s .now) _ ((c .before .before .before .before .before .before .before .before .before .next-token3) .ensures))) h, h .below)
+    (ends-free 2 (node-ends ((c .before .before .before .before .before .before .parse-single-node2) .kept .1 .0) 8 (ends-mark (otherLimit ((c .before .before .before .before .before .before .before .before .before .before .before .before .before .before .before .before .before .before .before .before .before .before .before .over) .given .0 .0)) (node-ends ((c .before .before .before .before .before .before .before .before .before .before .before .before .before .before .before .before .before .before .parse-single-node) .kept .1 .0) 7 (ends-script ((c .before .before .before .before .before .before .before .before .before .before .before .before .before .before .before .before .before .before .before .before .before .before .before .over) .given .0 .0) (ready-ends ((c .before .before .before .before .before .before .before .before .before .before .before .before .before .before .before .before .before .before .before .before .before .before .before .before .before .before .before .before .before .pre) .1 .0) ((c .before .before .before .before .before .before .before .before .before .before .before .before .before .before .before .before .before .before .before .before .before .before .before .before .before .before .before .before .before .pre) .1 .1)) (sym ((c .before .before .before .before .before .before .before .before .before .before .before .before .before .before .before .before .before .before .before .before .before .before .before .before .before .script-of) .ensures) ∙ (c .before .before .before .before .before .before .before .before .before .before .before .before .before .before .before .before .before .before .before .before .before .before .before .over) .given .1) ((c .before .before .before .before .before .before .before .before .before .before .before .before .before .before .before .before .before .before .before .before .before .next-token) .ensures) ((c .before .before .before .before .before .before .before .before .before .before .before .before .before .before .before .before .before .before .before .before .next-token2) .ensures)) (omega arith) (single-keeps ((c .before .before .before .before .before .before .before .before .before .before .before .before .before .before .before .before .before .before .before .before .before .before .before .before .before .before .before .before .before .args) .depth) ((c .before .before .before .before .before .before .before .before .before .before .before .before .before .before .before .before .before .before .before .before .before .before .before .before .before .before .before .before .before .args) .s .now)) g) (rw ((c .before .before .before .before .before .before .before .before .before .before .before .before .other-limit) .ensures) at (sym ((c .before .before .before .before .before .before .before .before .before .before .before .peek-token-is) .ensures) ∙ not-false _ ((c .before .before .before .before .before .before .before .before .before .before .if1) .left))) (other-byte ((c .before .before .before .before .before .before .before .before .before .before .before .before .before .before .before .before .before .before .before .before .before .before .before .over) .given .0 .0)) ((c .before .before .before .before .before .before .before .before .before .next-token3) .ensures) ((c .before .before .before .before .before .before .before .before .next-token4) .ensures)) (omega arith) (single-keeps ((c .before .before .before .before .before .before .before .before .before .before .before .before .before .before .before .before .before .before .before .before .before .before .before .before .before .before .before .before .before .args) .depth) ((c .before .before .before .before .before .before .before .before .before .before .before .before .before .before .before .before .before .before .before .before .before .before .before .before .before .before .before .before .before .args) .s .now)) h) (omega arith), first-below _ _ ((c .before .before .before .before .before .before .before .before .before .before .before .before .before .before .before .before .before .before .before .before .before .before .before .before .before .before .before .before .before .args) .p) _ _ _ _ ((next-made ((c .before .before .before .before .before .before .before .before .before .before .before .before .before .before .before .before .before .before .before .before .before .before .before .before .before .before .before .before .before .args) .s .now) _ ((c .before .before .before .before .before .before .before .before .before .before .before .before .before .before .before .before .before .before .before .before .next-token2) .ensures)) ∙ (next-made ((c .before .before .before .before .before .before .before .before .before .before .before .before .before .before .before .before .before .before .before .before .before .before .before .before .before .before .before .before .before .args) .s .now) ((c .before .before .before .before .before .before .before .before .before .before .before .before .before .before .before .before .before .before .before .before .before .before .before .before .before .before .before .before .before .args) .p) ((c .before .before .before .before .before .before .before .before .before .before .before .before .before .before .before .before .before .before .before .before .before .next-token) .ensures))) g _ _ _ _ _ ((next-made ((c .before .before .before .before .before .before .before .before .before .before .before .before .before .before .before .before .before .before .before .before .before .before .before .before .before .before .before .before .before .args) .s .now) _ ((c .before .before .before .before .before .before .before .before .next-token4) .ensures)) ∙ (next-made ((c .before .before .before .before .before .before .before .before .before .before .before .before .before .before .before .before .before .before .before .before .before .before .before .before .before .before .before .before .before .args) .s .now) _ ((c .before .before .before .before .before .before .before .before .before .next-token3) .ensures))) h, h .below)
 
 parse-limits-same-length-2 : (t : ℕ) → parse-limits-lts.Need-same-length-2 (parse-limits-calls t) (parse-limits-at t) parse-limits.Post
 parse-limits-same-length-2 t c = search needs
@@ -1216,7 +1272,8 @@ parse-limits-returns-5 t c =
     after-two _ _ ((c .before .before .before .before .before .before .before .before .before .before .before .before .before .before .before .before .before .before .before .before .before .before .before .before .before .before .before .before .before .before .before .before .args) .p) _ _ _ _ ((next-made ((c .before .before .before .before .before .before .before .before .before .before .before .before .before .before .before .before .before .before .before .before .before .before .before .before .before .before .before .before .before .before .before .before .args) .s .now) _ ((c .before .before .before .before .before .before .before .before .before .before .before .before .before .before .before .before .before .before .before .before .before .before .before .next-token2) .ensures)) ∙ (next-made ((c .before .before .before .before .before .before .before .before .before .before .before .before .before .before .before .before .before .before .before .before .before .before .before .before .before .before .before .before .before .before .before .before .args) .s .now) ((c .before .before .before .before .before .before .before .before .before .before .before .before .before .before .before .before .before .before .before .before .before .before .before .before .before .before .before .before .before .before .before .before .args) .p) ((c .before .before .before .before .before .before .before .before .before .before .before .before .before .before .before .before .before .before .before .before .before .before .before .before .next-token) .ensures))) g _ _ _ _ _ ((next-made ((c .before .before .before .before .before .before .before .before .before .before .before .before .before .before .before .before .before .before .before .before .before .before .before .before .before .before .before .before .before .before .before .before .args) .s .now) _ ((c .before .before .before .before .before .before .before .before .before .before .before .next-token4) .ensures)) ∙ (next-made ((c .before .before .before .before .before .before .before .before .before .before .before .before .before .before .before .before .before .before .before .before .before .before .before .before .before .before .before .before .before .before .before .before .args) .s .now) _ ((c .before .before .before .before .before .before .before .before .before .before .before .before .next-token3) .ensures))) h _ _ _ _ ((c .before .before .make-limits) .result) refl ((c .before .before .make-limits) .ensures) (limits-is (λ q. parseSingleNode ((c .before .before .before .before .before .before .before .before .before .before .before .before .before .before .before .before .before .before .before .before .before .before .before .before .before .before .before .before .before .before .before .before .args) .depth) ((c .before .before .before .before .before .before .before .before .before .before .before .before .before .before .before .before .before .before .before .before .before .before .before .before .before .before .before .before .before .before .before .before .args) .s .now) q) ((c .before .before .before .before .before .before .before .before .before .before .before .before .before .before .before .before .before .before .before .before .before .before .before .before .before .before .before .before .before .before .before .before .args) .s .now) ((c .before .before .before .before .before .before .before .before .before .before .before .before .before .before .before .before .before .before .before .before .before .before .before .before .before .before .before .before .before .before .before .before .args) .k) ((c .before .before .before .before .before .before .before .before .before .before .before .before .before .before .before .before .before .before .before .before .before .before .before .before .before .before .before .before .before .before .before .before .args) .p) ((c .before .before .before .before .before .before .before .before .before .before .before .before .before .before .before .before .before .before .before .before .before .before .before .before .next-token) .ensures) ((c .before .before .before .before .before .before .before .before .before .before .before .before .before .before .before .before .before .before .before .before .before .before .before .next-token2) .ensures) (g .is) ((c .before .before .before .before .before .before .before .before .before .before .before .before .next-token3) .ensures) ((c .before .before .before .before .before .before .before .before .before .before .before .next-token4) .ensures) ((c .before .before .before .before .before .before .before .before .before .before .before .before .before .before .before .before .before .before .before .before .before .before .before .before .before .before .over) .given .0 .0) (sym ((c .before .before .before .before .before .before .before .before .before .before .before .before .before .before .before .before .before .before .before .before .before .before .before .before .before .before .before .before .script-of) .ensures) ∙ (c .before .before .before .before .before .before .before .before .before .before .before .before .before .before .before .before .before .before .before .before .before .before .before .before .before .before .over) .given .1) (rw ((c .before .before .before .before .before .before .before .before .before .before .before .before .before .before .before .other-limit) .ensures) at (sym ((c .before .before .before .before .before .before .before .before .before .before .before .before .before .before .peek-token-is) .ensures) ∙ not-false _ ((c .before .before .before .before .before .before .before .before .before .before .before .before .before .if1) .left))) (h .is))
 
 parse-middle-next-token-requires : (t : ℕ) → parse-middle-lts.Need-next-token-requires (parse-middle-calls t) (parse-middle-at t) parse-middle.Post
-parse-middle-next-token-requires t c κs = let n = (c .before .before .pre) .1 .0 in
+parse-middle-next-token-requires t c κs =
+    let n = (c .before .before .pre) .1 .0 in
     (n .sound .peek .inside, n .table)
 
 parse-middle-parse-single-node-requires :
@@ -1285,56 +1342,20 @@ parse-node-parse-single-node-requires t c κs =
 parse-node-enum-known-r : (t : ℕ) → parse-node-lts.Need-enum-known-r (parse-node-calls t) (parse-node-at t) parse-node.Post
 parse-node-enum-known-r t c = search needs
 
-parse-node-enum-known-left : (t : ℕ) → parse-node-lts.Need-enum-known-left (parse-node-calls t) (parse-node-at t) parse-node.Post
-parse-node-enum-known-left t c = search needs
+parse-node-enum-known-base : (t : ℕ) → parse-node-lts.Need-enum-known-base (parse-node-calls t) (parse-node-at t) parse-node.Post
+parse-node-enum-known-base t c = search needs
 
-parse-node-script-of-requires : (t : ℕ) → parse-node-lts.Need-script-of-requires (parse-node-calls t) (parse-node-at t) parse-node.Post
-parse-node-script-of-requires t c κs = search needs
-
-parse-node-enum-told : (t : ℕ) → parse-node-lts.Need-enum-told (parse-node-calls t) (parse-node-at t) parse-node.Post
-parse-node-enum-told t c = search needs
-
-parse-node-enum-known-over : (t : ℕ) → parse-node-lts.Need-enum-known-over (parse-node-calls t) (parse-node-at t) parse-node.Post
-parse-node-enum-known-over t c = search needs
-
-parse-node-next-token-requires : (t : ℕ) → parse-node-lts.Need-next-token-requires (parse-node-calls t) (parse-node-at t) parse-node.Post
-parse-node-next-token-requires t c κs =
-    let g = rw ((c .before .before .before .before .before .before .left) .given .1) at ((c .before .before .before .before .before .before .before .before .before .before .parse-single-node) .ensures) in
-    let n = (ready-node ((c .before .before .before .before .before .before .before .before .before .before .parse-single-node) .kept .1 .0) ((c .before .before .before .before .before .before .before .before .before .before .before .before .before .before .before .before .before .before .before .pre) .1) (single-keeps (((c .before .before .before .before .before .before .before .before .before .before .before .before .before .before .before .before .before .before .before .args) .depth) - 1) ((c .before .before .before .before .before .before .before .before .before .before .before .before .before .before .before .before .before .before .before .args) .s .now)) g) in
-    (n .sound .peek .inside, n .table)
-
-parse-node-next-token-requires-2 : (t : ℕ) → parse-node-lts.Need-next-token-requires-2 (parse-node-calls t) (parse-node-at t) parse-node.Post
-parse-node-next-token-requires-2 t c κs =
-    let g = rw ((c .before .before .before .before .before .before .before .left) .given .1) at ((c .before .before .before .before .before .before .before .before .before .before .before .parse-single-node) .ensures) in
-    let n = (ends-next (ready-node ((c .before .before .before .before .before .before .before .before .before .before .before .parse-single-node) .kept .1 .0) ((c .before .before .before .before .before .before .before .before .before .before .before .before .before .before .before .before .before .before .before .before .pre) .1) (single-keeps (((c .before .before .before .before .before .before .before .before .before .before .before .before .before .before .before .before .before .before .before .before .args) .depth) - 1) ((c .before .before .before .before .before .before .before .before .before .before .before .before .before .before .before .before .before .before .before .before .args) .s .now)) g) ((c .next-token) .ensures)) in
-    (n .sound .peek .inside, n .table)
-
-parse-node-sub-parse-node : (t : ℕ) → parse-node-lts.Need-sub-parse-node (parse-node-calls t) (parse-node-at t) parse-node.Post
-parse-node-sub-parse-node t c =
-    let z = (c .before .before .before .before .before .before .before .before .before .before .before .before .before .before .before .before .before .before .before .if1) .left in
+parse-node-sub-scripts : (t : ℕ) → parse-node-lts.Need-sub-scripts (parse-node-calls t) (parse-node-at t) parse-node.Post
+parse-node-sub-scripts t c =
+    let z = (c .before .before .before .before .before .before .before .before .before .before .before .before .if1) .left in
     omega arith
 
-parse-node-parse-node-requires : (t : ℕ) → parse-node-lts.Need-parse-node-requires (parse-node-calls t) (parse-node-at t) parse-node.Post
-parse-node-parse-node-requires t c κs =
-    let m = (c .before .before .before .before .before .before .before .before .before .before .before .before .before .before .before .before .before .before .before .before .before .before .pre) .0 in
-    let z = (c .before .before .before .before .before .before .before .before .before .before .before .before .before .before .before .before .before .before .before .if1) .left in
-    let g = rw ((c .before .before .before .before .before .before .before .before .before .left) .given .1) at ((c .before .before .before .before .before .before .before .before .before .before .before .before .before .parse-single-node) .ensures) in
-    (omega arith, starts-ready (ends-mark (scriptMark ((c .before .before .before .before .over) .given .0 .0)) (ready-node ((c .before .before .before .before .before .before .before .before .before .before .before .before .before .parse-single-node) .kept .1 .0) ((c .before .before .before .before .before .before .before .before .before .before .before .before .before .before .before .before .before .before .before .before .before .before .pre) .1) (single-keeps (((c .before .before .before .before .before .before .before .before .before .before .before .before .before .before .before .before .before .before .before .before .before .before .args) .depth) - 1) ((c .before .before .before .before .before .before .before .before .before .before .before .before .before .before .before .before .before .before .before .before .before .before .args) .s .now)) g) (script-mark _ ((c .before .before .before .before .over) .given .0 .0) (sym ((c .before .before .before .before .before .before .script-of) .ensures) ∙ (c .before .before .before .before .over) .given .1)) (script-byte ((c .before .before .before .before .over) .given .0 .0)) ((c .before .before .next-token) .ensures) ((c .before .next-token2) .ensures)) (omega arith))
-
-parse-node-enum-known-r-2 : (t : ℕ) → parse-node-lts.Need-enum-known-r-2 (parse-node-calls t) (parse-node-at t) parse-node.Post
-parse-node-enum-known-r-2 t c = search needs
-
-parse-node-enum-known-right : (t : ℕ) → parse-node-lts.Need-enum-known-right (parse-node-calls t) (parse-node-at t) parse-node.Post
-parse-node-enum-known-right t c = search needs
-
-parse-node-script-kind-requires : (t : ℕ) → parse-node-lts.Need-script-kind-requires (parse-node-calls t) (parse-node-at t) parse-node.Post
-parse-node-script-kind-requires t c κs = search needs
-
-parse-node-make-two-requires : (t : ℕ) → parse-node-lts.Need-make-two-requires (parse-node-calls t) (parse-node-at t) parse-node.Post
-parse-node-make-two-requires t c κs =
-    let g = rw ((c .before .before .before .before .before .before .before .before .before .before .before .before .before .before .before .before .before .left) .given .1) at ((c .before .before .before .before .before .before .before .before .before .before .before .before .before .before .before .before .before .before .before .before .before .parse-single-node) .ensures) in
-    let h = rw ((c .before .before .before .right) .given .1) at ((c .before .before .before .before .before .before .before .parse-node) .ensures) in
-    (ends-free 1 (node-ends ((c .before .before .before .before .before .before .before .parse-node) .kept .1 .0) 1 (ends-mark (scriptMark ((c .before .before .before .before .before .before .before .before .before .before .before .before .over) .given .0 .0)) (ready-node ((c .before .before .before .before .before .before .before .before .before .before .before .before .before .before .before .before .before .before .before .before .before .parse-single-node) .kept .1 .0) ((c .before .before .before .before .before .before .before .before .before .before .before .before .before .before .before .before .before .before .before .before .before .before .before .before .before .before .before .before .before .before .pre) .1) (single-keeps (((c .before .before .before .before .before .before .before .before .before .before .before .before .before .before .before .before .before .before .before .before .before .before .before .before .before .before .before .before .before .before .args) .depth) - 1) ((c .before .before .before .before .before .before .before .before .before .before .before .before .before .before .before .before .before .before .before .before .before .before .before .before .before .before .before .before .before .before .args) .s .now)) g) (script-mark _ ((c .before .before .before .before .before .before .before .before .before .before .before .before .over) .given .0 .0) (sym ((c .before .before .before .before .before .before .before .before .before .before .before .before .before .before .script-of) .ensures) ∙ (c .before .before .before .before .before .before .before .before .before .before .before .before .over) .given .1)) (script-byte ((c .before .before .before .before .before .before .before .before .before .before .before .before .over) .given .0 .0)) ((c .before .before .before .before .before .before .before .before .before .before .next-token) .ensures) ((c .before .before .before .before .before .before .before .before .before .next-token2) .ensures)) (omega arith) (node-keeps (((c .before .before .before .before .before .before .before .before .before .before .before .before .before .before .before .before .before .before .before .before .before .before .before .before .before .before .before .before .before .before .args) .depth) - 1) ((c .before .before .before .before .before .before .before .before .before .before .before .before .before .before .before .before .before .before .before .before .before .before .before .before .before .before .before .before .before .before .args) .s .now)) h) (omega arith), first-below _ _ ((c .before .before .before .before .before .before .before .before .before .before .before .before .before .before .before .before .before .before .before .before .before .before .before .before .before .before .before .before .before .before .args) .p) _ _ _ _ refl g _ _ _ _ _ (next-made ((c .before .before .before .before .before .before .before .before .before .before .before .before .before .before .before .before .before .before .before .before .before .before .before .before .before .before .before .before .before .before .args) .s .now) _ ((c .before .before .before .before .before .before .before .before .before .next-token2) .ensures) ∙ next-made ((c .before .before .before .before .before .before .before .before .before .before .before .before .before .before .before .before .before .before .before .before .before .before .before .before .before .before .before .before .before .before .args) .s .now) _ ((c .before .before .before .before .before .before .before .before .before .before .next-token) .ensures)) h, h .below)
+parse-node-scripts-requires : (t : ℕ) → parse-node-lts.Need-scripts-requires (parse-node-calls t) (parse-node-at t) parse-node.Post
+parse-node-scripts-requires t c κs =
+    let m = (c .before .before .before .before .before .before .before .before .before .before .before .before .before .before .before .pre) .0 in
+    let z = (c .before .before .before .before .before .before .before .before .before .before .before .before .if1) .left in
+    let g = rw ((c .before .before .base) .given .1) at ((c .before .before .before .before .before .before .parse-single-node) .ensures) in
+    (omega arith, (ready-node ((c .before .before .before .before .before .before .parse-single-node) .kept .1 .0) ((c .before .before .before .before .before .before .before .before .before .before .before .before .before .before .before .pre) .1) (single-keeps (((c .before .before .before .before .before .before .before .before .before .before .before .before .before .before .before .args) .depth) - 1) ((c .before .before .before .before .before .before .before .before .before .before .before .before .before .before .before .args) .s .now)) g, g .below))
 
 parse-node-same-length-2 : (t : ℕ) → parse-node-lts.Need-same-length-2 (parse-node-calls t) (parse-node-at t) parse-node.Post
 parse-node-same-length-2 t c = search needs
@@ -1342,38 +1363,20 @@ parse-node-same-length-2 t c = search needs
 parse-node-returns-3 : (t : ℕ) → parse-node-lts.Need-returns-3 (parse-node-calls t) (parse-node-at t) parse-node.Post
 parse-node-returns-3 t c =
     let g = rw ((c .before .r) .given .1) at ((c .before .before .before .before .before .parse-single-node) .ensures) in
-    node-more ((c .before .before .before .before .before .before .before .before .before .before .before .before .before .before .args) .depth) ((c .before .before .before .before .before .before .before .before .before .before .before .before .before .before .args) .s .now) ((c .before .before .before .before .before .before .before .before .before .before .before .before .before .before .args) .p) ((c .before .before .before .before .before .before .before .before .before .before .before .if1) .left) ∙ node-no (λ q. parseNode (((c .before .before .before .before .before .before .before .before .before .before .before .before .before .before .args) .depth) - 1) ((c .before .before .before .before .before .before .before .before .before .before .before .before .before .before .args) .s .now) q) (λ q. parseSingleNode (((c .before .before .before .before .before .before .before .before .before .before .before .before .before .before .args) .depth) - 1) ((c .before .before .before .before .before .before .before .before .before .before .before .before .before .before .args) .s .now) q) ((c .before .before .before .before .before .before .before .before .before .before .before .before .before .before .args) .s .now) ((c .before .before .before .before .before .before .before .before .before .before .before .before .before .before .args) .p) g
+    node-more ((c .before .before .before .before .before .before .before .before .before .before .before .before .before .before .args) .depth) ((c .before .before .before .before .before .before .before .before .before .before .before .before .before .before .args) .s .now) ((c .before .before .before .before .before .before .before .before .before .before .before .before .before .before .args) .p) ((c .before .before .before .before .before .before .before .before .before .before .before .if1) .left) ∙ node-no (λ q. parseSingleNode (((c .before .before .before .before .before .before .before .before .before .before .before .before .before .before .args) .depth) - 1) ((c .before .before .before .before .before .before .before .before .before .before .before .before .before .before .args) .s .now) q) ((c .before .before .before .before .before .before .before .before .before .before .before .before .before .before .args) .s .now) ((c .before .before .before .before .before .before .before .before .before .before .before .before .before .before .args) .p) g
 
 parse-node-same-length-3 : (t : ℕ) → parse-node-lts.Need-same-length-3 (parse-node-calls t) (parse-node-at t) parse-node.Post
-parse-node-same-length-3 t c = search needs
+parse-node-same-length-3 t c =
+    (c .before .before .scripts) .kept .1 .0 ∙ (c .before .before .before .before .before .before .before .before .before .parse-single-node) .kept .1 .0
 
 parse-node-returns-4 : (t : ℕ) → parse-node-lts.Need-returns-4 (parse-node-calls t) (parse-node-at t) parse-node.Post
 parse-node-returns-4 t c =
-    let g = rw ((c .before .before .before .before .before .left) .given .1) at ((c .before .before .before .before .before .before .before .before .before .parse-single-node) .ensures) in
-    only _ _ ((c .before .before .before .before .before .before .before .before .before .before .before .before .before .before .before .before .before .before .args) .p) _ _ _ _ refl g _ (node-more ((c .before .before .before .before .before .before .before .before .before .before .before .before .before .before .before .before .before .before .args) .depth) ((c .before .before .before .before .before .before .before .before .before .before .before .before .before .before .before .before .before .before .args) .s .now) ((c .before .before .before .before .before .before .before .before .before .before .before .before .before .before .before .before .before .before .args) .p) ((c .before .before .before .before .before .before .before .before .before .before .before .before .before .before .before .if1) .left) ∙ node-bare (λ q. parseNode (((c .before .before .before .before .before .before .before .before .before .before .before .before .before .before .before .before .before .before .args) .depth) - 1) ((c .before .before .before .before .before .before .before .before .before .before .before .before .before .before .before .before .before .before .args) .s .now) q) (λ q. parseSingleNode (((c .before .before .before .before .before .before .before .before .before .before .before .before .before .before .before .before .before .before .args) .depth) - 1) ((c .before .before .before .before .before .before .before .before .before .before .before .before .before .before .before .before .before .before .args) .s .now) q) ((c .before .before .before .before .before .before .before .before .before .before .before .before .before .before .before .before .before .before .args) .s .now) ((c .before .before .before .before .before .before .before .before .before .before .before .before .before .before .before .before .before .before .args) .p) (g .is) (sym ((c .before .before .script-of) .ensures) ∙ (c .enum-told) .given .1))
-
-parse-node-same-length-4 : (t : ℕ) → parse-node-lts.Need-same-length-4 (parse-node-calls t) (parse-node-at t) parse-node.Post
-parse-node-same-length-4 t c =
-    (c .before .before .before .before .before .parse-node) .kept .1 .0 ∙ (c .before .before .before .before .before .before .before .before .before .before .before .before .before .before .before .before .before .before .before .parse-single-node) .kept .1 .0
-
-parse-node-returns-5 : (t : ℕ) → parse-node-lts.Need-returns-5 (parse-node-calls t) (parse-node-at t) parse-node.Post
-parse-node-returns-5 t c =
-    let g = rw ((c .before .before .before .before .before .before .before .before .before .before .before .before .before .before .before .left) .given .1) at ((c .before .before .before .before .before .before .before .before .before .before .before .before .before .before .before .before .before .before .before .parse-single-node) .ensures) in
-    let h = rw ((c .before .r2) .given .1) at ((c .before .before .before .before .before .parse-node) .ensures) in
-    node-more ((c .before .before .before .before .before .before .before .before .before .before .before .before .before .before .before .before .before .before .before .before .before .before .before .before .before .before .before .before .args) .depth) ((c .before .before .before .before .before .before .before .before .before .before .before .before .before .before .before .before .before .before .before .before .before .before .before .before .before .before .before .before .args) .s .now) ((c .before .before .before .before .before .before .before .before .before .before .before .before .before .before .before .before .before .before .before .before .before .before .before .before .before .before .before .before .args) .p) ((c .before .before .before .before .before .before .before .before .before .before .before .before .before .before .before .before .before .before .before .before .before .before .before .before .before .if1) .left) ∙ script-no (λ q. parseNode (((c .before .before .before .before .before .before .before .before .before .before .before .before .before .before .before .before .before .before .before .before .before .before .before .before .before .before .before .before .args) .depth) - 1) ((c .before .before .before .before .before .before .before .before .before .before .before .before .before .before .before .before .before .before .before .before .before .before .before .before .before .before .before .before .args) .s .now) q) (λ q. parseSingleNode (((c .before .before .before .before .before .before .before .before .before .before .before .before .before .before .before .before .before .before .before .before .before .before .before .before .before .before .before .before .args) .depth) - 1) ((c .before .before .before .before .before .before .before .before .before .before .before .before .before .before .before .before .before .before .before .before .before .before .before .before .before .before .before .before .args) .s .now) q) ((c .before .before .before .before .before .before .before .before .before .before .before .before .before .before .before .before .before .before .before .before .before .before .before .before .before .before .before .before .args) .s .now) ((c .before .before .before .before .before .before .before .before .before .before .before .before .before .before .before .before .before .before .before .before .before .before .before .before .before .before .before .before .args) .p) (g .is) ((c .before .before .before .before .before .before .before .before .before .before .over) .given .0 .0) (sym ((c .before .before .before .before .before .before .before .before .before .before .before .before .script-of) .ensures) ∙ (c .before .before .before .before .before .before .before .before .before .before .over) .given .1) ((c .before .before .before .before .before .before .before .before .next-token) .ensures) ((c .before .before .before .before .before .before .before .next-token2) .ensures) h
-
-parse-node-same-length-5 : (t : ℕ) → parse-node-lts.Need-same-length-5 (parse-node-calls t) (parse-node-at t) parse-node.Post
-parse-node-same-length-5 t c =
-    (c .before .before .make-two) .kept .0 ∙ (c .before .before .before .before .before .before .before .before .before .before .parse-node) .kept .1 .0 ∙ (c .before .before .before .before .before .before .before .before .before .before .before .before .before .before .before .before .before .before .before .before .before .before .before .before .parse-single-node) .kept .1 .0
-
-parse-node-returns-6 : (t : ℕ) → parse-node-lts.Need-returns-6 (parse-node-calls t) (parse-node-at t) parse-node.Post
-parse-node-returns-6 t c =
-    let g = rw ((c .before .before .before .before .before .before .before .before .before .before .before .before .before .before .before .before .before .before .before .before .left) .given .1) at ((c .before .before .before .before .before .before .before .before .before .before .before .before .before .before .before .before .before .before .before .before .before .before .before .before .parse-single-node) .ensures) in
-    let h = rw ((c .before .before .before .before .before .before .right) .given .1) at ((c .before .before .before .before .before .before .before .before .before .before .parse-node) .ensures) in
-    after-two _ _ ((c .before .before .before .before .before .before .before .before .before .before .before .before .before .before .before .before .before .before .before .before .before .before .before .before .before .before .before .before .before .before .before .before .before .args) .p) _ _ _ _ refl g _ _ _ _ _ (next-made ((c .before .before .before .before .before .before .before .before .before .before .before .before .before .before .before .before .before .before .before .before .before .before .before .before .before .before .before .before .before .before .before .before .before .args) .s .now) _ ((c .before .before .before .before .before .before .before .before .before .before .before .before .next-token2) .ensures) ∙ next-made ((c .before .before .before .before .before .before .before .before .before .before .before .before .before .before .before .before .before .before .before .before .before .before .before .before .before .before .before .before .before .before .before .before .before .args) .s .now) _ ((c .before .before .before .before .before .before .before .before .before .before .before .before .before .next-token) .ensures)) h _ _ _ _ ((c .before .before .make-two) .result) refl (rw ((c .before .before .before .script-kind) .ensures) at ((c .before .before .make-two) .ensures)) (node-more ((c .before .before .before .before .before .before .before .before .before .before .before .before .before .before .before .before .before .before .before .before .before .before .before .before .before .before .before .before .before .before .before .before .before .args) .depth) ((c .before .before .before .before .before .before .before .before .before .before .before .before .before .before .before .before .before .before .before .before .before .before .before .before .before .before .before .before .before .before .before .before .before .args) .s .now) ((c .before .before .before .before .before .before .before .before .before .before .before .before .before .before .before .before .before .before .before .before .before .before .before .before .before .before .before .before .before .before .before .before .before .args) .p) ((c .before .before .before .before .before .before .before .before .before .before .before .before .before .before .before .before .before .before .before .before .before .before .before .before .before .before .before .before .before .before .if1) .left) ∙ script-is (λ q. parseNode (((c .before .before .before .before .before .before .before .before .before .before .before .before .before .before .before .before .before .before .before .before .before .before .before .before .before .before .before .before .before .before .before .before .before .args) .depth) - 1) ((c .before .before .before .before .before .before .before .before .before .before .before .before .before .before .before .before .before .before .before .before .before .before .before .before .before .before .before .before .before .before .before .before .before .args) .s .now) q) (λ q. parseSingleNode (((c .before .before .before .before .before .before .before .before .before .before .before .before .before .before .before .before .before .before .before .before .before .before .before .before .before .before .before .before .before .before .before .before .before .args) .depth) - 1) ((c .before .before .before .before .before .before .before .before .before .before .before .before .before .before .before .before .before .before .before .before .before .before .before .before .before .before .before .before .before .before .before .before .before .args) .s .now) q) ((c .before .before .before .before .before .before .before .before .before .before .before .before .before .before .before .before .before .before .before .before .before .before .before .before .before .before .before .before .before .before .before .before .before .args) .s .now) ((c .before .before .before .before .before .before .before .before .before .before .before .before .before .before .before .before .before .before .before .before .before .before .before .before .before .before .before .before .before .before .before .before .before .args) .p) (g .is) ((c .before .before .before .before .before .before .before .before .before .before .before .before .before .before .before .over) .given .0 .0) (sym ((c .before .before .before .before .before .before .before .before .before .before .before .before .before .before .before .before .before .script-of) .ensures) ∙ (c .before .before .before .before .before .before .before .before .before .before .before .before .before .before .before .over) .given .1) ((c .before .before .before .before .before .before .before .before .before .before .before .before .before .next-token) .ensures) ((c .before .before .before .before .before .before .before .before .before .before .before .before .next-token2) .ensures) (h .is))
+    let g = rw ((c .before .before .before .before .before .base) .given .1) at ((c .before .before .before .before .before .before .before .before .before .parse-single-node) .ensures) in
+    after-one _ _ ((c .before .before .before .before .before .before .before .before .before .before .before .before .before .before .before .before .before .before .args) .p) _ _ _ _ refl g _ _ _ _ ((c .before .before .scripts) .result) refl ((c .before .before .scripts) .ensures) (node-more ((c .before .before .before .before .before .before .before .before .before .before .before .before .before .before .before .before .before .before .args) .depth) ((c .before .before .before .before .before .before .before .before .before .before .before .before .before .before .before .before .before .before .args) .s .now) ((c .before .before .before .before .before .before .before .before .before .before .before .before .before .before .before .before .before .before .args) .p) ((c .before .before .before .before .before .before .before .before .before .before .before .before .before .before .before .if1) .left) ∙ node-is (λ q. parseSingleNode (((c .before .before .before .before .before .before .before .before .before .before .before .before .before .before .before .before .before .before .args) .depth) - 1) ((c .before .before .before .before .before .before .before .before .before .before .before .before .before .before .before .before .before .before .args) .s .now) q) ((c .before .before .before .before .before .before .before .before .before .before .before .before .before .before .before .before .before .before .args) .s .now) ((c .before .before .before .before .before .before .before .before .before .before .before .before .before .before .before .before .before .before .args) .p) (g .is))
 
 parse-one-next-token-requires : (t : ℕ) → parse-one-lts.Need-next-token-requires (parse-one-calls t) (parse-one-at t) parse-one.Post
-parse-one-next-token-requires t c κs = let n = (c .before .before .pre) .1 .0 in
+parse-one-next-token-requires t c κs =
+    let n = (c .before .before .pre) .1 .0 in
     (n .sound .peek .inside, n .table)
 
 parse-one-parse-node-requires : (t : ℕ) → parse-one-lts.Need-parse-node-requires (parse-one-calls t) (parse-one-at t) parse-one.Post
@@ -1451,11 +1454,13 @@ parse-single-node-returns-3 t c =
     after-one _ _ ((c .before .before .before .before .before .before .before .before .before .before .before .before .before .before .args) .p) _ _ _ _ refl g _ _ _ _ ((c .before .before .finish-prime) .result) refl ((c .before .before .finish-prime) .ensures) (single-more ((c .before .before .before .before .before .before .before .before .before .before .before .before .before .before .args) .depth) ((c .before .before .before .before .before .before .before .before .before .before .before .before .before .before .args) .s .now) ((c .before .before .before .before .before .before .before .before .before .before .before .before .before .before .args) .p) ((c .before .before .before .before .before .before .before .before .before .before .before .if1) .left) ∙ bare-is (λ q. parseNode (((c .before .before .before .before .before .before .before .before .before .before .before .before .before .before .args) .depth) - 1) ((c .before .before .before .before .before .before .before .before .before .before .before .before .before .before .args) .s .now) q) (λ q. parseSingleNode (((c .before .before .before .before .before .before .before .before .before .before .before .before .before .before .args) .depth) - 1) ((c .before .before .before .before .before .before .before .before .before .before .before .before .before .before .args) .s .now) q) ((c .before .before .before .before .before .before .before .before .before .before .before .before .before .before .args) .s .now) ((c .before .before .before .before .before .before .before .before .before .before .before .before .before .before .args) .p) (g .is))
 
 parse-slashed-next-token-requires : (t : ℕ) → parse-slashed-lts.Need-next-token-requires (parse-slashed-calls t) (parse-slashed-at t) parse-slashed.Post
-parse-slashed-next-token-requires t c κs = let n = (c .before .before .pre) .1 .0 in
+parse-slashed-next-token-requires t c κs =
+    let n = (c .before .before .pre) .1 .0 in
     (n .sound .peek .inside, n .table)
 
 parse-slashed-next-token-requires-2 : (t : ℕ) → parse-slashed-lts.Need-next-token-requires-2 (parse-slashed-calls t) (parse-slashed-at t) parse-slashed.Post
-parse-slashed-next-token-requires-2 t c κs = let n = (ends-next (ready-ends ((c .before .before .before .pre) .1 .0) ((c .before .before .before .pre) .1 .1)) ((c .next-token) .ensures)) in
+parse-slashed-next-token-requires-2 t c κs =
+    let n = (ends-next (ready-ends ((c .before .before .before .pre) .1 .0) ((c .before .before .before .pre) .1 .1)) ((c .next-token) .ensures)) in
     (n .sound .peek .inside, n .table)
 
 parse-slashed-parse-node-requires : (t : ℕ) → parse-slashed-lts.Need-parse-node-requires (parse-slashed-calls t) (parse-slashed-at t) parse-slashed.Post
@@ -1499,7 +1504,8 @@ parse-slashed-returns-2 t c =
     after-one _ _ ((c .before .before .before .before .before .before .before .before .before .before .before .before .before .before .before .before .args) .p) _ _ _ _ ((next-made ((c .before .before .before .before .before .before .before .before .before .before .before .before .before .before .before .before .args) .s .now) _ ((c .before .before .before .before .before .before .before .before .before .before .before .before .next-token2) .ensures)) ∙ (next-made ((c .before .before .before .before .before .before .before .before .before .before .before .before .before .before .before .before .args) .s .now) ((c .before .before .before .before .before .before .before .before .before .before .before .before .before .before .before .before .args) .p) ((c .before .before .before .before .before .before .before .before .before .before .before .before .before .next-token) .ensures))) g _ _ _ _ ((c .before .before .make-one) .result) (next-made ((c .before .before .before .before .before .before .before .before .before .before .before .before .before .before .before .before .args) .s .now) _ ((c .before .before .before .before .next-token3) .ensures)) ((c .before .before .make-one) .ensures) (slashed-is (λ q. parseNode ((c .before .before .before .before .before .before .before .before .before .before .before .before .before .before .before .before .args) .depth) ((c .before .before .before .before .before .before .before .before .before .before .before .before .before .before .before .before .args) .s .now) q) ((c .before .before .before .before .before .before .before .before .before .before .before .before .before .before .before .before .args) .s .now) ((c .before .before .before .before .before .before .before .before .before .before .before .before .before .before .before .before .args) .p) ((c .before .before .before .before .before .before .before .before .before .before .before .before .before .next-token) .ensures) ((c .before .before .before .before .before .before .before .before .before .before .before .before .next-token2) .ensures) (g .is) ((c .before .before .before .before .next-token3) .ensures))
 
 parse-sqrt-next-token-requires : (t : ℕ) → parse-sqrt-lts.Need-next-token-requires (parse-sqrt-calls t) (parse-sqrt-at t) parse-sqrt.Post
-parse-sqrt-next-token-requires t c κs = let n = (c .before .before .pre) .1 .0 in
+parse-sqrt-next-token-requires t c κs =
+    let n = (c .before .before .pre) .1 .0 in
     (n .sound .peek .inside, n .table)
 
 parse-sqrt-cur-token-is-requires : (t : ℕ) → parse-sqrt-lts.Need-cur-token-is-requires (parse-sqrt-calls t) (parse-sqrt-at t) parse-sqrt.Post
@@ -1604,7 +1610,8 @@ parse-sqrt-returns-5 t c =
     after-one _ _ ((c .before .before .before .before .before .before .before .before .before .before .before .before .before .before .before .before .args) .p) _ _ _ _ (next-made ((c .before .before .before .before .before .before .before .before .before .before .before .before .before .before .before .before .args) .s .now) ((c .before .before .before .before .before .before .before .before .before .before .before .before .before .before .before .before .args) .p) ((c .before .before .before .before .before .before .before .before .before .before .before .before .before .next-token) .ensures)) g _ _ _ _ ((c .before .before .make-one) .result) refl ((c .before .before .make-one) .ensures) (sqrt-is (λ q. parseNode ((c .before .before .before .before .before .before .before .before .before .before .before .before .before .before .before .before .args) .depth) ((c .before .before .before .before .before .before .before .before .before .before .before .before .before .before .before .before .args) .s .now) q) ((c .before .before .before .before .before .before .before .before .before .before .before .before .before .before .before .before .args) .s .now) ((c .before .before .before .before .before .before .before .before .before .before .before .before .before .before .before .before .args) .p) ((c .before .before .before .before .before .before .before .before .before .before .before .before .before .next-token) .ensures) (sym ((c .before .before .before .before .before .before .before .before .before .before .before .before .cur-token-is) .ensures) ∙ (c .before .before .before .before .before .before .before .before .before .before .before .if1) .left) (g .is))
 
 parse-style-next-token-requires : (t : ℕ) → parse-style-lts.Need-next-token-requires (parse-style-calls t) (parse-style-at t) parse-style.Post
-parse-style-next-token-requires t c κs = let n = (c .before .before .pre) .1 .0 in
+parse-style-next-token-requires t c κs =
+    let n = (c .before .before .pre) .1 .0 in
     (n .sound .peek .inside, n .table)
 
 parse-style-parse-node-requires : (t : ℕ) → parse-style-lts.Need-parse-node-requires (parse-style-calls t) (parse-style-at t) parse-style.Post
@@ -1643,7 +1650,8 @@ parse-style-returns-2 t c =
     after-set _ _ _ ((c .before .before .before .before .before .before .before .before .before .before .before .before .before .before .args) .p) _ _ _ _ _ ((c .before .before .before .before .before .before .before .before .before .before .before .before .before .before .args) .v) (next-made ((c .before .before .before .before .before .before .before .before .before .before .before .before .before .before .args) .s .now) ((c .before .before .before .before .before .before .before .before .before .before .before .before .before .before .args) .p) ((c .before .before .before .before .before .before .before .before .before .before .before .next-token) .ensures)) g ((c .before .before .set-variant) .ensures) (style-is (λ q. parseNode ((c .before .before .before .before .before .before .before .before .before .before .before .before .before .before .args) .depth) ((c .before .before .before .before .before .before .before .before .before .before .before .before .before .before .args) .s .now) q) ((c .before .before .before .before .before .before .before .before .before .before .before .before .before .before .args) .s .now) ((c .before .before .before .before .before .before .before .before .before .before .before .before .before .before .args) .p) ((c .before .before .before .before .before .before .before .before .before .before .before .next-token) .ensures) ((c .before .before .before .before .before .before .before .before .before .before .before .before .before .before .args) .v) (g .is))
 
 parse-two-next-token-requires : (t : ℕ) → parse-two-lts.Need-next-token-requires (parse-two-calls t) (parse-two-at t) parse-two.Post
-parse-two-next-token-requires t c κs = let n = (c .before .before .pre) .1 .0 in
+parse-two-next-token-requires t c κs =
+    let n = (c .before .before .pre) .1 .0 in
     (n .sound .peek .inside, n .table)
 
 parse-two-parse-node-requires : (t : ℕ) → parse-two-lts.Need-parse-node-requires (parse-two-calls t) (parse-two-at t) parse-two.Post
@@ -1708,9 +1716,137 @@ parse-two-returns-3 t c =
     let h = rw ((c .before .before .before .before .before .b) .given .1) at ((c .before .before .before .before .before .before .before .before .before .parse-node2) .ensures) in
     after-two _ _ ((c .before .before .before .before .before .before .before .before .before .before .before .before .before .before .before .before .before .before .before .before .before .before .args) .p) _ _ _ _ (next-made ((c .before .before .before .before .before .before .before .before .before .before .before .before .before .before .before .before .before .before .before .before .before .before .args) .s .now) ((c .before .before .before .before .before .before .before .before .before .before .before .before .before .before .before .before .before .before .before .before .before .before .args) .p) ((c .before .before .before .before .before .before .before .before .before .before .before .before .before .before .before .before .before .before .before .next-token) .ensures)) g _ _ _ _ _ (next-made ((c .before .before .before .before .before .before .before .before .before .before .before .before .before .before .before .before .before .before .before .before .before .before .args) .s .now) _ ((c .before .before .before .before .before .before .before .before .before .before .before .next-token2) .ensures)) h _ _ _ _ ((c .before .before .make-pair) .result) refl ((c .before .before .make-pair) .ensures) (two-is (λ q. parseNode ((c .before .before .before .before .before .before .before .before .before .before .before .before .before .before .before .before .before .before .before .before .before .before .args) .depth) ((c .before .before .before .before .before .before .before .before .before .before .before .before .before .before .before .before .before .before .before .before .before .before .args) .s .now) q) ((c .before .before .before .before .before .before .before .before .before .before .before .before .before .before .before .before .before .before .before .before .before .before .args) .s .now) ((c .before .before .before .before .before .before .before .before .before .before .before .before .before .before .before .before .before .before .before .before .before .before .args) .p) ((c .before .before .before .before .before .before .before .before .before .before .before .before .before .before .before .before .before .before .before .next-token) .ensures) (g .is) ((c .before .before .before .before .before .before .before .before .before .before .before .next-token2) .ensures) ((c .before .before .before .before .before .before .before .before .before .before .before .before .before .before .before .before .before .before .before .before .before .before .args) .k) (h .is))
 
-pub +parse-bare+parse-begin+parse-brace+parse-group+parse-left+parse-lim+parse-limits+parse-middle+parse-node+parse-one+parse-single-node+parse-slashed+parse-sqrt+parse-style+parse-two-spec :
+scripts-script-of-requires : (t : ℕ) → scripts-lts.Need-script-of-requires (scripts-calls t) (scripts-at t) scripts.Post
+scripts-script-of-requires t c κs = search needs
+
+scripts-enum-told : (t : ℕ) → scripts-lts.Need-enum-told (scripts-calls t) (scripts-at t) scripts.Post
+scripts-enum-told t c = search needs
+
+scripts-enum-known-over : (t : ℕ) → scripts-lts.Need-enum-known-over (scripts-calls t) (scripts-at t) scripts.Post
+scripts-enum-known-over t c = search needs
+
+scripts-next-token-requires : (t : ℕ) → scripts-lts.Need-next-token-requires (scripts-calls t) (scripts-at t) scripts.Post
+scripts-next-token-requires t c κs =
+    may-next ((c .before .before .before .before .before .before .before .pre) .1 .0)
+
+scripts-next-token-requires-2 : (t : ℕ) → scripts-lts.Need-next-token-requires-2 (scripts-calls t) (scripts-at t) scripts.Post
+scripts-next-token-requires-2 t c κs =
+    may-next (ends-next ((c .before .before .before .before .before .before .before .before .pre) .1 .0) ((c .next-token) .ensures))
+
+scripts-parse-single-node-requires :
+    (t : ℕ) → scripts-lts.Need-parse-single-node-requires (scripts-calls t) (scripts-at t) scripts.Post
+scripts-parse-single-node-requires t c κs =
+    let m = (c .before .before .before .before .before .before .before .before .before .before .pre) .0 in
+    (omega arith, starts-ready (ends-script ((c .before .before .before .before .over) .given .0 .0) ((c .before .before .before .before .before .before .before .before .before .before .pre) .1 .0) (sym ((c .before .before .before .before .before .before .script-of) .ensures) ∙ (c .before .before .before .before .over) .given .1) ((c .before .before .next-token) .ensures) ((c .before .next-token2) .ensures)) (omega arith))
+
+scripts-enum-known-r : (t : ℕ) → scripts-lts.Need-enum-known-r (scripts-calls t) (scripts-at t) scripts.Post
+scripts-enum-known-r t c = search needs
+
+scripts-enum-known-x : (t : ℕ) → scripts-lts.Need-enum-known-x (scripts-calls t) (scripts-at t) scripts.Post
+scripts-enum-known-x t c = search needs
+
+scripts-second-requires : (t : ℕ) → scripts-lts.Need-second-requires (scripts-calls t) (scripts-at t) scripts.Post
+scripts-second-requires t c κs =
+    let m = (c .before .before .before .before .before .before .before .before .before .before .before .before .before .before .before .before .before .pre) .0 in
+    let g = rw ((c .before .before .x) .given .1) at ((c .before .before .before .before .before .before .parse-single-node) .ensures) in
+    (omega arith, (node-ends ((c .before .before .before .before .before .before .parse-single-node) .kept .1 .0) 1 (ends-script ((c .before .before .before .before .before .before .before .before .before .before .before .over) .given .0 .0) ((c .before .before .before .before .before .before .before .before .before .before .before .before .before .before .before .before .before .pre) .1 .0) (sym ((c .before .before .before .before .before .before .before .before .before .before .before .before .before .script-of) .ensures) ∙ (c .before .before .before .before .before .before .before .before .before .before .before .over) .given .1) ((c .before .before .before .before .before .before .before .before .before .next-token) .ensures) ((c .before .before .before .before .before .before .before .before .next-token2) .ensures)) (omega arith) (single-keeps ((c .before .before .before .before .before .before .before .before .before .before .before .before .before .before .before .before .before .args) .depth) ((c .before .before .before .before .before .before .before .before .before .before .before .before .before .before .before .before .before .args) .s .now)) g, old-below _ _ ((c .before .before .before .before .before .before .before .before .before .before .before .before .before .before .before .before .before .args) .p) _ _ _ _ (next-made ((c .before .before .before .before .before .before .before .before .before .before .before .before .before .before .before .before .before .args) .s .now) _ ((c .before .before .before .before .before .before .before .before .next-token2) .ensures) ∙ next-made ((c .before .before .before .before .before .before .before .before .before .before .before .before .before .before .before .before .before .args) .s .now) ((c .before .before .before .before .before .before .before .before .before .before .before .before .before .before .before .before .before .args) .p) ((c .before .before .before .before .before .before .before .before .before .next-token) .ensures)) g ((c .before .before .before .before .before .before .before .before .before .before .before .before .before .before .before .before .before .args) .base) ((c .before .before .before .before .before .before .before .before .before .before .before .before .before .before .before .before .before .pre) .1 .1), g .below))
+
+scripts-returns : (t : ℕ) → scripts-lts.Need-returns (scripts-calls t) (scripts-at t) scripts.Post
+scripts-returns t c =
+    left-alone _ ((c .before .before .before .before .before .before .args) .p) ((c .before .before .before .before .before .before .args) .base) _ ((c .before .before .before .before .before .before .pre) .1 .1) (scripts-none (λ q. parseSingleNode ((c .before .before .before .before .before .before .args) .depth) ((c .before .before .before .before .before .before .args) .s .now) q) ((c .before .before .before .before .before .before .args) .s .now) ((c .before .before .before .before .before .before .args) .p) (sym ((c .before .before .script-of) .ensures) ∙ (c .enum-told) .given .1))
+
+scripts-same-length : (t : ℕ) → scripts-lts.Need-same-length (scripts-calls t) (scripts-at t) scripts.Post
+scripts-same-length t c = search needs
+
+scripts-returns-2 : (t : ℕ) → scripts-lts.Need-returns-2 (scripts-calls t) (scripts-at t) scripts.Post
+scripts-returns-2 t c =
+    let g = rw ((c .before .r) .given .1) at ((c .before .before .before .before .before .parse-single-node) .ensures) in
+    λ lo n le h. scripts-no (λ q. parseSingleNode ((c .before .before .before .before .before .before .before .before .before .before .before .before .before .before .before .before .args) .depth) ((c .before .before .before .before .before .before .before .before .before .before .before .before .before .before .before .before .args) .s .now) q) ((c .before .before .before .before .before .before .before .before .before .before .before .before .before .before .before .before .args) .s .now) ((c .before .before .before .before .before .before .before .before .before .before .before .before .before .before .before .before .args) .p) ((c .before .before .before .before .before .before .before .before .next-token) .ensures) ((c .before .before .before .before .before .before .before .next-token2) .ensures) ((c .before .before .before .before .before .before .before .before .before .before .over) .given .0 .0) (sym ((c .before .before .before .before .before .before .before .before .before .before .before .before .script-of) .ensures) ∙ (c .before .before .before .before .before .before .before .before .before .before .over) .given .1) g n
+
+scripts-same-length-2 : (t : ℕ) → scripts-lts.Need-same-length-2 (scripts-calls t) (scripts-at t) scripts.Post
+scripts-same-length-2 t c =
+    (c .before .before .second) .kept .1 .0 ∙ (c .before .before .before .before .before .before .before .before .before .parse-single-node) .kept .1 .0
+
+scripts-returns-3 : (t : ℕ) → scripts-lts.Need-returns-3 (scripts-calls t) (scripts-at t) scripts.Post
+scripts-returns-3 t c =
+    let g = rw ((c .before .before .before .before .before .x) .given .1) at ((c .before .before .before .before .before .before .before .before .before .parse-single-node) .ensures) in
+    beside-one _ _ ((c .before .before .before .before .before .before .before .before .before .before .before .before .before .before .before .before .before .before .before .before .args) .p) _ _ _ _ (next-made ((c .before .before .before .before .before .before .before .before .before .before .before .before .before .before .before .before .before .before .before .before .args) .s .now) _ ((c .before .before .before .before .before .before .before .before .before .before .before .next-token2) .ensures) ∙ next-made ((c .before .before .before .before .before .before .before .before .before .before .before .before .before .before .before .before .before .before .before .before .args) .s .now) ((c .before .before .before .before .before .before .before .before .before .before .before .before .before .before .before .before .before .before .before .before .args) .p) ((c .before .before .before .before .before .before .before .before .before .before .before .before .next-token) .ensures)) g ((c .before .before .before .before .before .before .before .before .before .before .before .before .before .before .before .before .before .before .before .before .args) .base) ((c .before .before .before .before .before .before .before .before .before .before .before .before .before .before .before .before .before .before .before .before .pre) .1 .1) _ _ _ _ ((c .before .before .second) .result) refl ((c .before .before .second) .ensures) (scripts-is (λ q. parseSingleNode ((c .before .before .before .before .before .before .before .before .before .before .before .before .before .before .before .before .before .before .before .before .args) .depth) ((c .before .before .before .before .before .before .before .before .before .before .before .before .before .before .before .before .before .before .before .before .args) .s .now) q) ((c .before .before .before .before .before .before .before .before .before .before .before .before .before .before .before .before .before .before .before .before .args) .s .now) ((c .before .before .before .before .before .before .before .before .before .before .before .before .before .before .before .before .before .before .before .before .args) .p) ((c .before .before .before .before .before .before .before .before .before .before .before .before .next-token) .ensures) ((c .before .before .before .before .before .before .before .before .before .before .before .next-token2) .ensures) ((c .before .before .before .before .before .before .before .before .before .before .before .before .before .before .over) .given .0 .0) (sym ((c .before .before .before .before .before .before .before .before .before .before .before .before .before .before .before .before .script-of) .ensures) ∙ (c .before .before .before .before .before .before .before .before .before .before .before .before .before .before .over) .given .1) (g .is))
+
+second-script-of-requires : (t : ℕ) → second-lts.Need-script-of-requires (second-calls t) (second-at t) second.Post
+second-script-of-requires t c κs = search needs
+
+second-enum-told : (t : ℕ) → second-lts.Need-enum-told (second-calls t) (second-at t) second.Post
+second-enum-told t c = search needs
+
+second-script-kind-requires : (t : ℕ) → second-lts.Need-script-kind-requires (second-calls t) (second-at t) second.Post
+second-script-kind-requires t c κs = search needs
+
+second-make-two-requires : (t : ℕ) → second-lts.Need-make-two-requires (second-calls t) (second-at t) second.Post
+second-make-two-requires t c κs =
+    (ends-free 1 ((c .before .before .before .before .before .before .before .before .pre) .1 .0) (omega arith), (c .before .before .before .before .before .before .before .before .pre) .1 .1, (c .before .before .before .before .before .before .before .before .pre) .1 .2)
+
+second-enum-known-again : (t : ℕ) → second-lts.Need-enum-known-again (second-calls t) (second-at t) second.Post
+second-enum-known-again t c = search needs
+
+second-repeats-requires : (t : ℕ) → second-lts.Need-repeats-requires (second-calls t) (second-at t) second.Post
+second-repeats-requires t c κs = search needs
+
+second-returns : (t : ℕ) → second-lts.Need-returns (second-calls t) (second-at t) second.Post
+second-returns t c =
+    λ lo m n le u v. second-again (λ q. parseSingleNode ((c .before .before .before .before .before .before .before .before .before .args) .depth) ((c .before .before .before .before .before .before .before .before .before .args) .s .now) q) ((c .before .before .before .before .before .before .before .before .before .args) .s .now) ((c .before .before .before .before .before .before .before .before .before .args) .p) ((c .before .before .before .before .before .before .before .before .before .args) .over) ((c .before .before .before .again) .given .0 .0) (sym ((c .before .before .before .before .before .script-of) .ensures) ∙ (c .before .before .before .again) .given .1) (sym ((c .before .repeats) .ensures) ∙ (c .if1) .taken) m n
+
+second-next-token-requires : (t : ℕ) → second-lts.Need-next-token-requires (second-calls t) (second-at t) second.Post
+second-next-token-requires t c κs =
+    may-next ((c .before .before .before .before .before .before .before .before .before .pre) .1 .0)
+
+second-next-token-requires-2 : (t : ℕ) → second-lts.Need-next-token-requires-2 (second-calls t) (second-at t) second.Post
+second-next-token-requires-2 t c κs =
+    may-next (ends-next ((c .before .before .before .before .before .before .before .before .before .before .pre) .1 .0) ((c .next-token) .ensures))
+
+second-parse-single-node-requires :
+    (t : ℕ) → second-lts.Need-parse-single-node-requires (second-calls t) (second-at t) second.Post
+second-parse-single-node-requires t c κs =
+    let m = (c .before .before .before .before .before .before .before .before .before .before .before .before .pre) .0 in
+    (omega arith, starts-ready (ends-script ((c .before .before .before .before .before .before .again) .given .0 .0) ((c .before .before .before .before .before .before .before .before .before .before .before .before .pre) .1 .0) (sym ((c .before .before .before .before .before .before .before .before .script-of) .ensures) ∙ (c .before .before .before .before .before .before .again) .given .1) ((c .before .before .next-token) .ensures) ((c .before .next-token2) .ensures)) (omega arith))
+
+second-enum-known-r : (t : ℕ) → second-lts.Need-enum-known-r (second-calls t) (second-at t) second.Post
+second-enum-known-r t c = search needs
+
+second-enum-known-y : (t : ℕ) → second-lts.Need-enum-known-y (second-calls t) (second-at t) second.Post
+second-enum-known-y t c = search needs
+
+second-make-scripts-requires : (t : ℕ) → second-lts.Need-make-scripts-requires (second-calls t) (second-at t) second.Post
+second-make-scripts-requires t c κs =
+    let g = rw ((c .before .before .y) .given .1) at ((c .before .before .before .before .before .before .parse-single-node) .ensures) in
+    (ends-free 1 (node-ends ((c .before .before .before .before .before .before .parse-single-node) .kept .1 .0) 2 (ends-script ((c .before .before .before .before .before .before .before .before .before .before .before .before .before .again) .given .0 .0) ((c .before .before .before .before .before .before .before .before .before .before .before .before .before .before .before .before .before .before .before .pre) .1 .0) (sym ((c .before .before .before .before .before .before .before .before .before .before .before .before .before .before .before .script-of) .ensures) ∙ (c .before .before .before .before .before .before .before .before .before .before .before .before .before .again) .given .1) ((c .before .before .before .before .before .before .before .before .before .next-token) .ensures) ((c .before .before .before .before .before .before .before .before .next-token2) .ensures)) (omega arith) (single-keeps ((c .before .before .before .before .before .before .before .before .before .before .before .before .before .before .before .before .before .before .before .args) .depth) ((c .before .before .before .before .before .before .before .before .before .before .before .before .before .before .before .before .before .before .before .args) .s .now)) g) (omega arith), old-below _ _ ((c .before .before .before .before .before .before .before .before .before .before .before .before .before .before .before .before .before .before .before .args) .p) _ _ _ _ (next-made ((c .before .before .before .before .before .before .before .before .before .before .before .before .before .before .before .before .before .before .before .args) .s .now) _ ((c .before .before .before .before .before .before .before .before .next-token2) .ensures) ∙ next-made ((c .before .before .before .before .before .before .before .before .before .before .before .before .before .before .before .before .before .before .before .args) .s .now) ((c .before .before .before .before .before .before .before .before .before .before .before .before .before .before .before .before .before .before .before .args) .p) ((c .before .before .before .before .before .before .before .before .before .next-token) .ensures)) g ((c .before .before .before .before .before .before .before .before .before .before .before .before .before .before .before .before .before .before .before .args) .base) ((c .before .before .before .before .before .before .before .before .before .before .before .before .before .before .before .before .before .before .before .pre) .1 .1), old-below _ _ ((c .before .before .before .before .before .before .before .before .before .before .before .before .before .before .before .before .before .before .before .args) .p) _ _ _ _ (next-made ((c .before .before .before .before .before .before .before .before .before .before .before .before .before .before .before .before .before .before .before .args) .s .now) _ ((c .before .before .before .before .before .before .before .before .next-token2) .ensures) ∙ next-made ((c .before .before .before .before .before .before .before .before .before .before .before .before .before .before .before .before .before .before .before .args) .s .now) ((c .before .before .before .before .before .before .before .before .before .before .before .before .before .before .before .before .before .before .before .args) .p) ((c .before .before .before .before .before .before .before .before .before .next-token) .ensures)) g ((c .before .before .before .before .before .before .before .before .before .before .before .before .before .before .before .before .before .before .before .args) .x) ((c .before .before .before .before .before .before .before .before .before .before .before .before .before .before .before .before .before .before .before .pre) .1 .2), g .below)
+
+second-same-length : (t : ℕ) → second-lts.Need-same-length (second-calls t) (second-at t) second.Post
+second-same-length t c = search needs
+
+second-returns-2 : (t : ℕ) → second-lts.Need-returns-2 (second-calls t) (second-at t) second.Post
+second-returns-2 t c =
+    as-two _ _ ((c .before .before .before .before .before .before .before .before .before .before .before .args) .p) ((c .before .before .before .before .before .before .before .before .before .before .before .args) .base) ((c .before .before .before .before .before .before .before .before .before .before .before .args) .x) _ _ ((c .before .before .make-two) .result) (rw ((c .before .before .before .script-kind) .ensures) at ((c .before .before .make-two) .ensures)) (second-none (λ q. parseSingleNode ((c .before .before .before .before .before .before .before .before .before .before .before .args) .depth) ((c .before .before .before .before .before .before .before .before .before .before .before .args) .s .now) q) ((c .before .before .before .before .before .before .before .before .before .before .before .args) .s .now) ((c .before .before .before .before .before .before .before .before .before .before .before .args) .p) ((c .before .before .before .before .before .before .before .before .before .before .before .args) .over) (sym ((c .before .before .before .before .before .before .before .script-of) .ensures) ∙ (c .before .before .before .before .before .enum-told) .given .1))
+
+second-same-length-2 : (t : ℕ) → second-lts.Need-same-length-2 (second-calls t) (second-at t) second.Post
+second-same-length-2 t c = search needs
+
+second-returns-3 : (t : ℕ) → second-lts.Need-returns-3 (second-calls t) (second-at t) second.Post
+second-returns-3 t c =
+    let g = rw ((c .before .r) .given .1) at ((c .before .before .before .before .before .parse-single-node) .ensures) in
+    λ lo m n le u v. second-no (λ q. parseSingleNode ((c .before .before .before .before .before .before .before .before .before .before .before .before .before .before .before .before .before .before .args) .depth) ((c .before .before .before .before .before .before .before .before .before .before .before .before .before .before .before .before .before .before .args) .s .now) q) ((c .before .before .before .before .before .before .before .before .before .before .before .before .before .before .before .before .before .before .args) .s .now) ((c .before .before .before .before .before .before .before .before .before .before .before .before .before .before .before .before .before .before .args) .p) ((c .before .before .before .before .before .before .before .before .next-token) .ensures) ((c .before .before .before .before .before .before .before .next-token2) .ensures) ((c .before .before .before .before .before .before .before .before .before .before .before .before .before .before .before .before .before .before .args) .over) ((c .before .before .before .before .before .before .before .before .before .before .before .before .again) .given .0 .0) (sym ((c .before .before .before .before .before .before .before .before .before .before .before .before .before .before .script-of) .ensures) ∙ (c .before .before .before .before .before .before .before .before .before .before .before .before .again) .given .1) (sym ((c .before .before .before .before .before .before .before .before .before .before .repeats) .ensures) ∙ (c .before .before .before .before .before .before .before .before .before .if1) .left) g m n
+
+second-same-length-3 : (t : ℕ) → second-lts.Need-same-length-3 (second-calls t) (second-at t) second.Post
+second-same-length-3 t c =
+    (c .before .before .make-scripts) .kept .0 ∙ (c .before .before .before .before .before .before .before .before .before .parse-single-node) .kept .1 .0
+
+second-returns-4 : (t : ℕ) → second-lts.Need-returns-4 (second-calls t) (second-at t) second.Post
+second-returns-4 t c =
+    let g = rw ((c .before .before .before .before .before .y) .given .1) at ((c .before .before .before .before .before .before .before .before .before .parse-single-node) .ensures) in
+    beside-two _ _ ((c .before .before .before .before .before .before .before .before .before .before .before .before .before .before .before .before .before .before .before .before .before .before .args) .p) _ _ _ _ (next-made ((c .before .before .before .before .before .before .before .before .before .before .before .before .before .before .before .before .before .before .before .before .before .before .args) .s .now) _ ((c .before .before .before .before .before .before .before .before .before .before .before .next-token2) .ensures) ∙ next-made ((c .before .before .before .before .before .before .before .before .before .before .before .before .before .before .before .before .before .before .before .before .before .before .args) .s .now) ((c .before .before .before .before .before .before .before .before .before .before .before .before .before .before .before .before .before .before .before .before .before .before .args) .p) ((c .before .before .before .before .before .before .before .before .before .before .before .before .next-token) .ensures)) g ((c .before .before .before .before .before .before .before .before .before .before .before .before .before .before .before .before .before .before .before .before .before .before .args) .base) ((c .before .before .before .before .before .before .before .before .before .before .before .before .before .before .before .before .before .before .before .before .before .before .args) .x) ((c .before .before .before .before .before .before .before .before .before .before .before .before .before .before .before .before .before .before .before .before .before .before .pre) .1 .1) ((c .before .before .before .before .before .before .before .before .before .before .before .before .before .before .before .before .before .before .before .before .before .before .pre) .1 .2) _ _ _ _ ((c .before .before .make-scripts) .result) refl ((c .before .before .make-scripts) .ensures) (second-is (λ q. parseSingleNode ((c .before .before .before .before .before .before .before .before .before .before .before .before .before .before .before .before .before .before .before .before .before .before .args) .depth) ((c .before .before .before .before .before .before .before .before .before .before .before .before .before .before .before .before .before .before .before .before .before .before .args) .s .now) q) ((c .before .before .before .before .before .before .before .before .before .before .before .before .before .before .before .before .before .before .before .before .before .before .args) .s .now) ((c .before .before .before .before .before .before .before .before .before .before .before .before .before .before .before .before .before .before .before .before .before .before .args) .p) ((c .before .before .before .before .before .before .before .before .before .before .before .before .next-token) .ensures) ((c .before .before .before .before .before .before .before .before .before .before .before .next-token2) .ensures) ((c .before .before .before .before .before .before .before .before .before .before .before .before .before .before .before .before .before .before .before .before .before .before .args) .over) ((c .before .before .before .before .before .before .before .before .before .before .before .before .before .before .before .before .again) .given .0 .0) (sym ((c .before .before .before .before .before .before .before .before .before .before .before .before .before .before .before .before .before .before .script-of) .ensures) ∙ (c .before .before .before .before .before .before .before .before .before .before .before .before .before .before .before .before .again) .given .1) (sym ((c .before .before .before .before .before .before .before .before .before .before .before .before .before .before .repeats) .ensures) ∙ (c .before .before .before .before .before .before .before .before .before .before .before .before .before .if1) .left) (g .is))
+
+pub +parse-bare+parse-begin+parse-brace+parse-group+parse-left+parse-lim+parse-limits+parse-middle+parse-node+parse-one+parse-single-node+parse-slashed+parse-sqrt+parse-style+parse-two+scripts+second-spec :
     {M : Type 1} → statement M
-+parse-bare+parse-begin+parse-brace+parse-group+parse-left+parse-lim+parse-limits+parse-middle+parse-node+parse-one+parse-single-node+parse-slashed+parse-sqrt+parse-style+parse-two-spec =
++parse-bare+parse-begin+parse-brace+parse-group+parse-left+parse-lim+parse-limits+parse-middle+parse-node+parse-one+parse-single-node+parse-slashed+parse-sqrt+parse-style+parse-two+scripts+second-spec =
     close
     μ-parse-bare
     μ-parse-begin
@@ -1727,6 +1863,8 @@ pub +parse-bare+parse-begin+parse-brace+parse-group+parse-left+parse-lim+parse-l
     μ-parse-sqrt
     μ-parse-style
     μ-parse-two
+    μ-scripts
+    μ-second
     (λ t. parse-bare-lts.spec (parse-bare-calls t)
     (parse-bare-at t)
     parse-bare.Post
@@ -1973,26 +2111,13 @@ pub +parse-bare+parse-begin+parse-brace+parse-group+parse-left+parse-lim+parse-l
     (parse-node-sub-parse-single-node t)
     (parse-node-parse-single-node-requires t)
     (parse-node-enum-known-r t)
-    (parse-node-enum-known-left t)
-    (parse-node-script-of-requires t)
-    (parse-node-enum-told t)
-    (parse-node-enum-known-over t)
-    (parse-node-next-token-requires t)
-    (parse-node-next-token-requires-2 t)
-    (parse-node-sub-parse-node t)
-    (parse-node-parse-node-requires t)
-    (parse-node-enum-known-r-2 t)
-    (parse-node-enum-known-right t)
-    (parse-node-script-kind-requires t)
-    (parse-node-make-two-requires t)
+    (parse-node-enum-known-base t)
+    (parse-node-sub-scripts t)
+    (parse-node-scripts-requires t)
     (parse-node-same-length-2 t)
     (parse-node-returns-3 t)
     (parse-node-same-length-3 t)
-    (parse-node-returns-4 t)
-    (parse-node-same-length-4 t)
-    (parse-node-returns-5 t)
-    (parse-node-same-length-5 t)
-    (parse-node-returns-6 t))
+    (parse-node-returns-4 t))
     (λ t. parse-one-lts.spec (parse-one-calls t)
     (parse-one-at t)
     parse-one.Post
@@ -2071,7 +2196,7 @@ pub +parse-bare+parse-begin+parse-brace+parse-group+parse-left+parse-lim+parse-l
     (parse-style-returns t)
     (parse-style-same-length-2 t)
     (parse-style-returns-2 t))
-    λ t. parse-two-lts.spec (parse-two-calls t)
+    (λ t. parse-two-lts.spec (parse-two-calls t)
     (parse-two-at t)
     parse-two.Post
     (parse-two-next-token-requires t)
@@ -2088,4 +2213,43 @@ pub +parse-bare+parse-begin+parse-brace+parse-group+parse-left+parse-lim+parse-l
     (parse-two-same-length-2 t)
     (parse-two-returns-2 t)
     (parse-two-same-length-3 t)
-    (parse-two-returns-3 t)
+    (parse-two-returns-3 t))
+    (λ t. scripts-lts.spec (scripts-calls t)
+    (scripts-at t)
+    scripts.Post
+    (scripts-script-of-requires t)
+    (scripts-enum-told t)
+    (scripts-enum-known-over t)
+    (scripts-next-token-requires t)
+    (scripts-next-token-requires-2 t)
+    (scripts-parse-single-node-requires t)
+    (scripts-enum-known-r t)
+    (scripts-enum-known-x t)
+    (scripts-second-requires t)
+    (scripts-returns t)
+    (scripts-same-length t)
+    (scripts-returns-2 t)
+    (scripts-same-length-2 t)
+    (scripts-returns-3 t))
+    λ t. second-lts.spec (second-calls t)
+    (second-at t)
+    second.Post
+    (second-script-of-requires t)
+    (second-enum-told t)
+    (second-script-kind-requires t)
+    (second-make-two-requires t)
+    (second-enum-known-again t)
+    (second-repeats-requires t)
+    (second-returns t)
+    (second-next-token-requires t)
+    (second-next-token-requires-2 t)
+    (second-parse-single-node-requires t)
+    (second-enum-known-r t)
+    (second-enum-known-y t)
+    (second-make-scripts-requires t)
+    (second-same-length t)
+    (second-returns-2 t)
+    (second-same-length-2 t)
+    (second-returns-3 t)
+    (second-same-length-3 t)
+    (second-returns-4 t)
