@@ -274,6 +274,14 @@ fn prose(copies: usize) -> String {
     text.repeat(copies)
 }
 
+/// Prose with a formula of one letter so often that a dollar stands in every `apart` bytes, in all 16 KB at most.
+fn spaced(apart: usize) -> String {
+    let sentence = "The stops are entered from the sill upwards, in pulses. ";
+    let letters = sentence.chars().cycle().take(2 * apart - 3);
+    let text: String = letters.chain("$k$".chars()).collect();
+    text.repeat(16_384 / text.len())
+}
+
 /// The three examples behind one another, the one with a stray dollar among them.
 fn handbook(copies: usize) -> String {
     (EXAMPLES.join("\n") + "\n").repeat(copies)
@@ -324,6 +332,9 @@ fn rows() -> Vec<Row> {
         row("page: handbook, 8 KB", Page, handbook(4), 0.8),
         row("replacement: one example", Replacement, example(), 0.8),
         row("replacement: 8 KB", Replacement, replaced(5), 0.8),
+        row("a dollar in 20 bytes", Replacement, spaced(20), 0.8),
+        row("a dollar in 100 bytes", Replacement, spaced(100), 0.8),
+        row("a dollar in 700 bytes", Replacement, spaced(700), 0.8),
         row("formula, 4,000 bytes", Body, formula(41), 0.8),
         one_by_one("12 bodies of 8 to 40 bytes", Body, short_bodies(), 0.6),
         row("one small matrix", Body, small_matrices(1), 0.5),

@@ -1,6 +1,6 @@
 -- Dollars side by side, and whether marks are odd in number.
 -- Assumes nothing.
-use mathlib.Core.Path.{_≡_, refl, sym, _∙_, ap}
+use mathlib.Core.Path.{_≡_, refl, sym, _∙_, ap, fun-ext}
 use mathlib.Core.Bool.{Bool, true, false, not, xor, _&&_, _||_, and-false, or-true, or-false, false≢true}
 use mathlib.Core.List.{List, [], _∷_}
 use Prim.Native.Nat.{ℕ, zero, suc, _+_, _-_, _≤_, _<_, _%_}
@@ -13,7 +13,17 @@ use borrow.Author.Tests.{eqb-true, eqb-false, eq-eqb, ne-eqb, lt-ltb, ltb-false}
 use Rattle.text.proofs.Cases.{never, by-test, by-order, both}
 use Rattle.latex2mathml.specs.Replace.{dollar, twoDollars, threeDollars, places, odd}
 use Rattle.latex2mathml.specs.Dollars.{mark, width, nextPlace}
+use Rattle.latex2mathml.specs.Search.{startsWith}
 use Rattle.latex2mathml.proofs.PlaceLaws.{next-here, next-more, next-is, next-none, places-here, places-more, places-end, places-none, places-first, skipped}
+
+-- a dollar is a byte that is looked for by words
+pub dollar-starts : dollar ≡ startsWith 36
+unfolding dollar startsWith
+dollar-starts = fun-ext same
+  where
+    same : (l : List ℕ) → dollar l ≡ startsWith 36 l
+    same [] = refl
+    same (b ∷ l) = refl
 
 -- a byte is a dollar where it stands
 dollar-at : (s : List ℕ) (i : ℕ) → dollar (drop i s) ≡ eqb (getD s i 0) 36

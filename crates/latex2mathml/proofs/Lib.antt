@@ -4,6 +4,7 @@ pub mod TranslateLaws
 pub mod LayLaws
 pub mod BodyLaws
 pub mod PlaceLaws
+pub mod SearchLaws
 pub mod DollarLaws
 pub mod PassLaws
 pub mod ReplaceLaws

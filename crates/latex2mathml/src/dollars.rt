@@ -1,4 +1,5 @@
 // The dollars of a document.
+use crate::search::next_byte;
 ghost use mathlib.Core.Path.{_≡_};
 ghost use Prim.Native.Nat.{_≤_};
 ghost use lib.Dec.{ltb};
@@ -11,14 +12,7 @@ fn next_dollar(s: &[u8], from: usize) -> usize
     requires { ⌜ from ≤ length (now s) ⌝ }
     ensures { λ r. ⌜ (r ≡ nextPlace dollar from (drop from (now (s .entry)))) × (from ≤ r) × (r ≤ length (now (s .entry))) ⌝ }
 {
-    let mut i = from;
-    while i < s.len() {
-        if s[i] == b'$' {
-            return i;
-        }
-        i += 1;
-    }
-    i
+    next_byte(s, from, b'$')
 }
 
 // Whether a dollar stands anywhere. It goes on to the end in any case, so that many bytes are tested at once.

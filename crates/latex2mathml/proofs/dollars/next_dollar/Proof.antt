@@ -1,62 +1,16 @@
--- `latex2mathml::dollars::next_dollar` meets its contract. The invariant: the next dollar from i on is the next from the beginning on.
+-- `latex2mathml::dollars::next_dollar` meets its contract.
 -- Assumes nothing.
-use mathlib.Core.Path.{_≡_, refl, sym, _∙_}
-use Prim.Native.Nat.{_-_, _≤_}
-use lib.ListN.{length, drop}
-use Rattle.latex2mathml.specs.Replace.{dollar}
-use Rattle.latex2mathml.specs.Dollars.{nextPlace}
-use Rattle.latex2mathml.proofs.PlaceLaws.{next-here, next-more, next-end}
-use Rattle.latex2mathml.proofs.DollarLaws.{dollar-is, dollar-not}
+use Rattle.latex2mathml.proofs.DollarLaws.{dollar-starts}
+use borrow.Author.Needs.{needs}
 use native.Mathlib.Omega.{arith}
 use Rattle.latex2mathml.proofs.dollars.next_dollar.Statement.{statement}
 use Rattle.latex2mathml.proofs.dollars.next_dollar.Tie as tie
 
-abbrev Inv-loop : tie.InvT-loop
-Inv-loop s from i₀ i =
-    (nextPlace dollar i₀ (drop i₀ s) ≡ nextPlace dollar i (drop i s)) × (i₀ ≤ i) × (i ≤ length s)
+next-byte-requires : tie.Need-next-byte-requires
+next-byte-requires c κs = search needs
 
-abbrev μ-loop : tie.MeasureT-loop
-μ-loop s from i₀ i = length s - i
-
-loop-holds : tie.Need-loop-holds Inv-loop μ-loop
-loop-holds c = (refl, omega arith, (c .pre))
-
-shared-slice-read-if1 : tie.Need-shared-slice-read-if1 Inv-loop μ-loop
-shared-slice-read-if1 c = omega arith
-
-returns : tie.Need-returns Inv-loop μ-loop
-returns c =
-    let l = (c .before .before .before .loop) in
-    let s = (c .before .before .before .before .args) .s .now in
-    (sym (l .inv .0 ∙ next-here dollar s (l .i) ((c .before .before .loop-test) .taken) (dollar-is s (l .i) ((c .if1) .taken))), l .inv .1, l .inv .2)
-
-add-i : tie.Need-add-i Inv-loop μ-loop
-add-i c = omega arith
-
-loop-less : tie.Need-loop-less Inv-loop μ-loop
-loop-less c = omega arith
-
-loop-again : tie.Need-loop-again Inv-loop μ-loop
-loop-again c =
-    let l = (c .before .before .before .loop) in
-    let s = (c .before .before .before .before .args) .s .now in
-    (l .inv .0 ∙ next-more dollar s (l .i) ((c .before .before .loop-test) .taken) (dollar-not s (l .i) ((c .if1) .left)), omega arith, omega arith)
-
-returns-2 : tie.Need-returns-2 Inv-loop μ-loop
-returns-2 c =
-    let l = (c .before .loop) in
-    (sym (l .inv .0 ∙ next-end dollar ((c .before .before .args) .s .now) (l .i) ((c .loop-test) .left)), l .inv .1, l .inv .2)
+returns : tie.Need-returns
+returns c = rw dollar-starts ((c .next-byte) .ensures)
 
 pub next-dollar-spec : {M : Type 1} → statement M
-next-dollar-spec =
-    tie.close
-    (tie.spec
-    Inv-loop
-    μ-loop
-    loop-holds
-    shared-slice-read-if1
-    returns
-    add-i
-    loop-less
-    loop-again
-    returns-2)
+next-dollar-spec = tie.close (tie.spec next-byte-requires returns)

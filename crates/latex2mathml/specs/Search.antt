@@ -1,0 +1,16 @@
+-- A byte at the head of some bytes, and a byte among them.
+-- Assumes nothing.
+use mathlib.Core.Bool.{Bool, false, _||_}
+use mathlib.Core.List.{List, [], _∷_}
+use Prim.Native.Nat.{ℕ}
+use lib.Dec.{eqb}
+
+-- the first byte is b
+unfoldable pub startsWith : ℕ → List ℕ → Bool
+startsWith b [] = false
+startsWith b (c ∷ l) = eqb c b
+
+-- at least one of the bytes is b
+unfoldable pub among : ℕ → List ℕ → Bool
+among b [] = false
+among b (c ∷ l) = eqb c b || among b l
