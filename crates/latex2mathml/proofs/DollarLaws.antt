@@ -13,8 +13,8 @@ use borrow.Author.Tests.{eqb-true, eqb-false, eq-eqb, ne-eqb, lt-ltb, ltb-false}
 use Rattle.text.proofs.Cases.{never, by-test, by-order, both}
 use Rattle.latex2mathml.specs.Replace.{dollar, twoDollars, threeDollars, places, odd}
 use Rattle.latex2mathml.specs.Dollars.{mark, width, nextPlace}
-use Rattle.latex2mathml.specs.Search.{startsWith}
-use Rattle.latex2mathml.proofs.PlaceLaws.{next-here, next-more, next-is, next-none, places-here, places-more, places-end, places-none, places-first, skipped}
+use Rattle.latex2mathml.specs.Search.{startsWith, pair}
+use Rattle.latex2mathml.proofs.PlaceLaws.{next-is, next-none, places-here, places-more, places-end, places-none, places-first, skipped}
 
 -- a dollar is a byte that is looked for by words
 pub dollar-starts : dollar ≡ startsWith 36
@@ -24,6 +24,11 @@ dollar-starts = fun-ext same
     same : (l : List ℕ) → dollar l ≡ startsWith 36 l
     same [] = refl
     same (b ∷ l) = refl
+
+-- .. and two dollars are two bytes alike
+pub two-pair : twoDollars ≡ pair 36
+unfolding twoDollars pair
+two-pair = fun-ext (λ l. rw dollar-starts)
 
 -- a byte is a dollar where it stands
 dollar-at : (s : List ℕ) (i : ℕ) → dollar (drop i s) ≡ eqb (getD s i 0) 36
@@ -53,25 +58,6 @@ module _ (s : List ℕ) (i : ℕ) where
 dollar-end : (s : List ℕ) (i : ℕ) → length s ≤ i → dollar (drop i s) ≡ false
 unfolding dollar
 dollar-end s i h = rw (drop-of-length-le s h)
-
--- The next two dollars from i on.
-module _ (s : List ℕ) (i : ℕ) where
-  -- where no dollar stands behind i, they are the next from i + 2 on
-  pub window-past : i + 1 < length s → (getD s (i + 1) 0 ≡ 36 → ⊥) → nextPlace twoDollars i (drop i s) ≡ nextPlace twoDollars (i + 2) (drop (i + 2) s)
-  window-past h e =
-      let two : i + 1 + 1 ≡ i + 2 = omega arith in
-      let here = two-at s i _ false refl (dollar-not s (i + 1) e) ∙ and-false (dollar (drop i s)) in
-      next-more twoDollars s i (omega arith) here ∙ rw (← two) (next-more twoDollars s (i + 1) h (two-at s (i + 1) false _ (dollar-not s (i + 1) e) refl))
-
-  pub window-here : i + 1 < length s → getD s (i + 1) 0 ≡ 36 → getD s i 0 ≡ 36 → nextPlace twoDollars i (drop i s) ≡ i
-  window-here h e f = next-here twoDollars s i (omega arith) (two-at s i true true (dollar-is s i f) (dollar-is s (i + 1) e))
-
-  pub window-more : i + 1 < length s → (getD s i 0 ≡ 36 → ⊥) → nextPlace twoDollars i (drop i s) ≡ nextPlace twoDollars (i + 1) (drop (i + 1) s)
-  window-more h f = next-more twoDollars s i (omega arith) (two-at s i false _ (dollar-not s i f) refl)
-
-  pub window-none : i ≤ length s → length s - i ≤ 1 → nextPlace twoDollars i (drop i s) ≡ length s
-  window-none h short =
-      next-none twoDollars s i h (λ j l. two-at s j _ false refl (dollar-end s (j + 1) (omega arith)) ∙ and-false (dollar (drop j s)))
 
 -- The places of three dollars from i on, where r is the next place of two.
 module _ (s : List ℕ) (i r : ℕ) (h : i ≤ length s) (e : r ≡ nextPlace twoDollars i (drop i s)) where

@@ -61,6 +61,12 @@ module _ (test : List ℕ → Bool) (s : List ℕ) where
   skipped f same i h =
       up-to-next (λ j r. f j ≡ f r) refl (λ j inside t. refl) (λ j r inside failed e. same j inside failed ∙ e) (length s - i) i (omega arith)
 
+  -- where no place fails that passes another test, the next that passes the other is the next from there on
+  pub next-within : (other : List ℕ → Bool) → ((j : ℕ) → test (drop j s) ≡ false → other (drop j s) ≡ false)
+      → (i r : ℕ) → i ≤ length s → r ≡ nextPlace test i (drop i s) → nextPlace other i (drop i s) ≡ nextPlace other r (drop r s)
+  next-within other within i r h e =
+      rw e (skipped (λ j. nextPlace other j (drop j s)) (λ j l failed. next-more other s j l (within j failed)) i h)
+
   -- the next place that passes is not before i, nor behind the end, and passes unless it is the end
   pub record Next (i r : ℕ) : Type 0 where
     pub from : i ≤ r

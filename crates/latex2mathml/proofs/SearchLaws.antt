@@ -1,24 +1,25 @@
--- The test of a word goes byte by byte: no sum reaches the next byte.
+-- A byte found by words: the test of a word goes byte by byte, since no sum reaches the next byte; and two bytes alike.
 -- Assumes nothing.
 use mathlib.Core.Path.{_≡_, refl, sym, _∙_, ap, ap₂}
-use mathlib.Core.Bool.{Bool, true, false, not, _||_, false≢true}
+use mathlib.Core.Bool.{Bool, true, false, not, _&&_, _||_, and-false, false≢true}
 use mathlib.Core.List.{List, [], _∷_}
-use Prim.Native.Nat.{ℕ, zero, suc, _+_, _*_, _/_, _%_, _^_, _≤_, _<_}
+use Prim.Native.Nat.{ℕ, zero, suc, _+_, _-_, _*_, _/_, _%_, _^_, _≤_, _<_}
 use native.Mathlib.Nat.{mod-lt, lt-of-le-of-lt, lt-of-lt-of-le, add-zero}
 use native.Mathlib.Numerals.{add-one}
 use native.Mathlib.Omega.{arith}
 use lib.Dec.{eqb, lit<}
 use lib.Arith.{digits-div, digits-mod}
-use lib.ListN.{length, take, drop, getD}
-use lib.Seq.{drop-cons}
+use lib.ListN.{length, take, drop, getD, drop-of-length-le}
+use lib.Seq.{drop-cons, drop-drop}
 use lib.Pow.{pow-pos, pow-add, pow-mono, split}
 use lib.Bits.{bitAnd, bitOr, bitXor, and-block, or-block, xor-block, and-le-l, and-le-r, and-zero-r, or-lt, xor-lt, xor-self, xor-add-and}
 use borrow.Author.Tests.{eqb-true, eqb-false, eq-eqb, ne-eqb}
 use Rattle.text.specs.Put.{digits}
 use Rattle.latex2mathml.specs.Dollars.{nextPlace}
-use Rattle.latex2mathml.specs.Search.{startsWith, among}
+use Rattle.latex2mathml.specs.Search.{startsWith, pair, among}
 use Rattle.text.proofs.Cases.{by-test}
 use Rattle.text.proofs.Tabled.{each}
+use Rattle.latex2mathml.proofs.PlaceLaws.{next-here, next-more, next-none, next-within, next-is}
 
 -- n bytes that are all c
 unfoldable pub all : ℕ → ℕ → ℕ
@@ -129,7 +130,7 @@ module _ (s : List ℕ) (k j : ℕ) (w : ℕ) where
       → digits (suc k) (w * 256 + getD s j 0) ≡ take (suc k) (drop j s)
   word-more h low e = low-byte k w (getD s j 0) low ∙ rw (drop-cons s j 0 h, e)
 
--- k bytes are below 2 ^ (8 k), and so is one byte more while there are less than eight
+-- k bytes are below 2 ^ (8 k), and so is one byte more while there are fewer than eight
 pub word-room : (k w b : ℕ) → w < 2 ^ (8 * k) → b < 256 → w * 256 + b < 2 ^ (8 * suc k)
 word-room k w b h l =
     let e : 8 * suc k ≡ 8 * k + 8 = omega arith in
@@ -149,3 +150,30 @@ module _ (b : ℕ) (s : List ℕ) (i : ℕ) (h : i < length s) where
 
   pub starts-not : (getD s i 0 ≡ b → ⊥) → startsWith b (drop i s) ≡ false
   starts-not e = starts-at b s i h ∙ ne-eqb _ _ e
+
+-- no byte stands behind the end
+starts-end : (b : ℕ) (s : List ℕ) (i : ℕ) → length s ≤ i → startsWith b (drop i s) ≡ false
+unfolding startsWith
+starts-end b s i h = rw (drop-of-length-le s h)
+
+pair-at : (b : ℕ) (s : List ℕ) (i : ℕ) (x y : Bool) → startsWith b (drop i s) ≡ x → startsWith b (drop (i + 1) s) ≡ y → pair b (drop i s) ≡ (x && y)
+unfolding pair
+pair-at b s i x y first next = rw (first, drop-drop 1 i s, next)
+
+-- The next two b from i on, where r is the next b.
+module _ (b : ℕ) (s : List ℕ) (i r : ℕ) (h : i ≤ length s) (e : r ≡ nextPlace (startsWith b) i (drop i s)) where
+  from-there : nextPlace (pair b) i (drop i s) ≡ nextPlace (pair b) r (drop r s)
+  from-there = next-within (startsWith b) s (pair b) (λ j failed. pair-at b s j false _ failed refl) i r h e
+
+  pub pair-here : r + 1 < length s → getD s (r + 1) 0 ≡ b → nextPlace (pair b) i (drop i s) ≡ r
+  pair-here l f =
+      let first = rw (← e) at (next-is (startsWith b) s i h) .passes (omega arith) in
+      from-there ∙ next-here (pair b) s r (omega arith) (pair-at b s r true true first (starts-is b s (r + 1) l f))
+
+  pub pair-more : r + 1 < length s → (getD s (r + 1) 0 ≡ b → ⊥) → nextPlace (pair b) i (drop i s) ≡ nextPlace (pair b) (r + 1) (drop (r + 1) s)
+  pair-more l f =
+      from-there ∙ next-more (pair b) s r (omega arith) (pair-at b s r _ false refl (starts-not b s (r + 1) l f) ∙ and-false (startsWith b (drop r s)))
+
+  pub pair-none : r ≤ length s → length s - r < 2 → nextPlace (pair b) i (drop i s) ≡ length s
+  pair-none inside short =
+      from-there ∙ next-none (pair b) s r inside (λ j l. pair-at b s j _ false refl (starts-end b s (j + 1) (omega arith)) ∙ and-false (startsWith b (drop j s)))

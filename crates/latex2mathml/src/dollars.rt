@@ -1,5 +1,6 @@
 // The dollars of a document.
 use crate::search::next_byte;
+use crate::search::next_pair;
 ghost use mathlib.Core.Path.{_≡_};
 ghost use Prim.Native.Nat.{_≤_};
 ghost use lib.Dec.{ltb};
@@ -30,24 +31,12 @@ fn has_dollar(s: &[u8]) -> bool
     found
 }
 
-// The place of the first two dollars side by side from a place on, or the length. Where the second of two bytes is none, neither of
-// them begins two.
+// The place of the first two dollars side by side from a place on, or the length.
 fn next_window(s: &[u8], from: usize) -> usize
     requires { ⌜ from ≤ length (now s) ⌝ }
     ensures { λ r. ⌜ (r ≡ nextPlace twoDollars from (drop from (now (s .entry)))) × (from ≤ r) × (r ≤ length (now (s .entry))) ⌝ }
 {
-    let mut i = from;
-    while 1 < s.len() - i {
-        if s[i + 1] != b'$' {
-            i += 2;
-            continue;
-        }
-        if s[i] == b'$' {
-            return i;
-        }
-        i += 1;
-    }
-    s.len()
+    next_pair(s, from, b'$')
 }
 
 // The place of the next mark, which is one dollar or two.

@@ -1,10 +1,10 @@
-// The search for a byte, by words of eight bytes.
+// The search for a byte, and for two alike, by words of eight bytes.
 ghost use mathlib.Core.Path.{_≡_};
 ghost use Prim.Native.Nat.{_+_, _≤_, _<_};
 ghost use lib.ListN.{length, take, drop};
 ghost use Rattle.text.specs.Put.{digits};
 ghost use Rattle.latex2mathml.specs.Dollars.{nextPlace};
-ghost use Rattle.latex2mathml.specs.Search.{startsWith, among};
+ghost use Rattle.latex2mathml.specs.Search.{startsWith, pair, among};
 
 // A byte as a word.
 fn wide(x: u8) -> u64
@@ -65,4 +65,22 @@ pub fn next_byte(s: &[u8], from: usize, b: u8) -> usize
         i += 1;
     }
     i
+}
+
+// The place of the first two b side by side from a place on, or the length.
+pub fn next_pair(s: &[u8], from: usize, b: u8) -> usize
+    requires { ⌜ from ≤ length (now s) ⌝ }
+    ensures { λ r. ⌜ (r ≡ nextPlace (pair b) from (drop from (now (s .entry)))) × (from ≤ r) × (r ≤ length (now (s .entry))) ⌝ }
+{
+    let mut i = from;
+    loop {
+        i = next_byte(s, i, b);
+        if s.len() - i < 2 {
+            return s.len();
+        }
+        if s[i + 1] == b {
+            return i;
+        }
+        i += 1;
+    }
 }

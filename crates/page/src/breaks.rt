@@ -1,27 +1,17 @@
 // The breaks of a document: where the next one begins, and where it ends.
+use latex2mathml::search::next_pair;
 ghost use mathlib.Core.Path.{_≡_};
 ghost use Prim.Native.Nat.{_≤_};
 ghost use lib.ListN.{length, drop};
 ghost use Rattle.latex2mathml.specs.Dollars.{nextPlace};
 ghost use Rattle.page.specs.Breaks.{twoLineFeeds, noLineFeed};
 
-// The place of the first two line feeds from a place on, or the length. Where the second of two bytes is none, neither of them begins two.
+// The place of the first two line feeds from a place on, or the length.
 pub fn next_break(s: &[u8], from: usize) -> usize
     requires { ⌜ from ≤ length (now s) ⌝ }
     ensures { λ r. ⌜ (r ≡ nextPlace twoLineFeeds from (drop from (now (s .entry)))) × (from ≤ r) × (r ≤ length (now (s .entry))) ⌝ }
 {
-    let mut i = from;
-    while 1 < s.len() - i {
-        if s[i + 1] != b'\n' {
-            i += 2;
-            continue;
-        }
-        if s[i] == b'\n' {
-            return i;
-        }
-        i += 1;
-    }
-    s.len()
+    next_pair(s, from, b'\n')
 }
 
 // The first place from a place on where no line feed stands, or the length.

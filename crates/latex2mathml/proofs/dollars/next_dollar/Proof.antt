@@ -2,7 +2,6 @@
 -- Assumes nothing.
 use Rattle.latex2mathml.proofs.DollarLaws.{dollar-starts}
 use borrow.Author.Needs.{needs}
-use native.Mathlib.Omega.{arith}
 use Rattle.latex2mathml.proofs.dollars.next_dollar.Statement.{statement}
 use Rattle.latex2mathml.proofs.dollars.next_dollar.Tie as tie
 
