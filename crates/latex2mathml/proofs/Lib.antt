@@ -8,4 +8,5 @@ pub mod SearchLaws
 pub mod DollarLaws
 pub mod PassLaws
 pub mod ReplaceLaws
+pub mod ProseLaws
 pub mod PlainLaws

@@ -127,7 +127,7 @@ plain-checked d short well none = record {
 }
 
 module _ (d : List ℕ) (store work : ℕ) where
-  first-is : Checked d → firstPass d store work ≡ (passed store DisplayStyle.Block true d >>= (λ text. refuse (ltb work (length text)) Refusal.WorkTooSmall >>= (λ _. accepted text)))
+  pub first-is : Checked d → firstPass d store work ≡ (passed store DisplayStyle.Block true d >>= (λ text. refuse (ltb work (length text)) Refusal.WorkTooSmall >>= (λ _. accepted text)))
   unfolding firstPass refuse _>>=_ documentLimit
   first-is h = rw (firstPass, le-ltb 32768 (length d) (h .short), h .well, h .even, h .apart)
 

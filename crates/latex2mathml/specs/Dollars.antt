@@ -1,8 +1,10 @@
--- The place of the next mark of a text.
+-- The place of the next mark of a text, and prose, in which there is none.
 -- Assumes nothing.
-use mathlib.Core.Bool.{Bool, true, false}
+use mathlib.Core.Bool.{Bool, true, false, _&&_}
 use mathlib.Core.List.{List, [], _∷_}
 use Prim.Native.Nat.{ℕ, suc}
+use Rattle.text.specs.Follow.{isAscii}
+use Rattle.text.specs.Plain.{plain}
 use Rattle.latex2mathml.specs.Replace.{dollar, twoDollars}
 
 -- a mark is two dollars in pass one, one in pass two
@@ -18,3 +20,7 @@ width false = 1
 unfoldable pub nextPlace : (List ℕ → Bool) → ℕ → List ℕ → ℕ
 nextPlace test at [] = at
 nextPlace test at (b ∷ l) = elim (test (b ∷ l)) [ true ↦ at | false ↦ nextPlace test (suc at) l ]
+
+-- no byte is above 127, and none is a dollar
+unfoldable pub isProse : List ℕ → Bool
+isProse l = isAscii l && plain l

@@ -6,7 +6,7 @@ ghost use Prim.Native.Nat.{_≤_};
 ghost use lib.Dec.{ltb};
 ghost use lib.ListN.{length, drop};
 ghost use Rattle.latex2mathml.specs.Replace.{dollar, twoDollars, threeDollars, places, odd};
-ghost use Rattle.latex2mathml.specs.Dollars.{mark, nextPlace};
+ghost use Rattle.latex2mathml.specs.Dollars.{mark, nextPlace, isProse};
 
 // The place of the first dollar from a place on, or the length.
 fn next_dollar(s: &[u8], from: usize) -> usize
@@ -29,6 +29,29 @@ fn has_dollar(s: &[u8]) -> bool
         i += 1;
     }
     found
+}
+
+// Whether all bytes are ASCII and none is a dollar. A flag for each test, so that many bytes are tested at once: one flag that is set in
+// two places would be a branch.
+pub fn is_prose(s: &[u8]) -> bool
+    ensures { λ r. ⌜ r ≡ isProse (now (s .entry)) ⌝ }
+{
+    let mut ascii = true;
+    let mut plain = true;
+    let mut i = 0;
+    while i < s.len() {
+        if 0x7f < s[i] {
+            ascii = false;
+        }
+        if s[i] == b'$' {
+            plain = false;
+        }
+        i += 1;
+    }
+    if ascii {
+        return plain;
+    }
+    false
 }
 
 // The place of the first two dollars side by side from a place on, or the length.

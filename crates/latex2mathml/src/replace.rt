@@ -1,6 +1,7 @@
 // Replacement: the Rust's `replace`, in two passes over a document.
 use crate::Answer;
 use crate::dollars::first_mark;
+use crate::dollars::is_prose;
 use crate::dollars::next_mark;
 use crate::dollars::odd_marks;
 use crate::dollars::three_dollars;
@@ -15,11 +16,11 @@ use token::table::Table;
 use token::table::table;
 ghost use mathlib.Core.Path.{_≡_};
 ghost use mathlib.Core.Bool.{true};
-ghost use Prim.Native.Nat.{_+_, _*_, _^_, _≤_, _<_};
+ghost use Prim.Native.Nat.{ℕ, _+_, _*_, _^_, _≤_, _<_};
 ghost use lib.ListN.{length};
 ghost use Rattle.token.specs.Key.{rows};
 ghost use Rattle.latex2mathml.specs.Replace.{translateBody, firstPass, secondPass, replacement};
-ghost use Rattle.latex2mathml.specs.Dollars.{width};
+ghost use Rattle.latex2mathml.specs.Dollars.{width, isProse};
 ghost use Rattle.latex2mathml.specs.Written.{Free, Gives, Replaces};
 ghost use Rattle.latex2mathml.specs.Laid.{Laid, Lays, RoomFor, Fits, WrittenThere, Begins, inRoom, passed, growth, Passable, AtMost};
 
@@ -286,10 +287,31 @@ fn replace_short(document: &[u8], store: &mut [u8], work: &mut [u8], out: &mut [
     replace_in(document, store, work, out, &mut draft)
 }
 
+// The replacement in prose, which is copied without a draft.
+fn replace_prose(document: &[u8], work: &mut [u8], out: &mut [u8]) -> Answer
+    requires { ⌜ isProse (now document) ≡ true ⌝ }
+    ensures { λ r. ⌜ ((store : ℕ) → Replaces (now (document .entry)) store r (now (work .entry)) (now (work .exit)) (now (out .entry)) (now (out .exit))) ⌝ }
+{
+    if 32768 < document.len() {
+        return Answer::Refused(Refusal::TooLong);
+    }
+    if work.len() < document.len() {
+        return Answer::Refused(Refusal::WorkTooSmall);
+    }
+    put(document, work, 0, true);
+    if out.len() < document.len() {
+        return Answer::Refused(Refusal::OutputTooSmall);
+    }
+    Answer::Accepted(put(document, out, 0, true))
+}
+
 // The replacement in a document.
 pub fn replace(document: &[u8], store: &mut [u8], work: &mut [u8], out: &mut [u8]) -> Answer
     ensures { λ r. ⌜ Replaces (now (document .entry)) (length (now (store .entry))) r (now (work .entry)) (now (work .exit)) (now (out .entry)) (now (out .exit)) × Free (now (store .entry)) (now (store .exit)) ⌝ }
 {
+    if is_prose(document) {
+        return replace_prose(document, work, out);
+    }
     if document.len() < 2048 {
         return replace_short(document, store, work, out);
     }

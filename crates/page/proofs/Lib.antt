@@ -5,6 +5,7 @@ pub mod ParagraphLaws
 pub mod DraftLaws
 pub mod WriteLaws
 pub mod PageLaws
+pub mod ProseLaws
 pub mod DollarRunLaws
 pub mod MarkLaws
 pub mod PassLaws

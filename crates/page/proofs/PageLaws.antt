@@ -21,7 +21,7 @@ use Rattle.page.specs.Run.{answerNumber, answerLength, answerParagraphs,
 use Rattle.page.specs.Marks.{Totalled}
 
 -- a refused page leaves the output as it was
-pages-refused : (document : List ℕ) (store work : ℕ) (r : Refusal) (o : List ℕ) → page document store work (length o) ≡ refused r
+pub pages-refused : (document : List ℕ) (store work : ℕ) (r : Refusal) (o : List ℕ) → page document store work (length o) ≡ refused r
     → Pages document store work (PageAnswer.Refused r) o o
 unfolding answerNumber answerLength answerParagraphs answerLeft numberOf outputOf paragraphsOf leftOf over
 pages-refused document store work r o e = record { number = rw e; size = rw e; paragraphs = rw e; left = rw e; output = rw e }

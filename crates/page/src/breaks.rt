@@ -1,10 +1,12 @@
-// The breaks of a document: where the next one begins, and where it ends.
+// The breaks of a document: where the next one begins, where it ends, and how many paragraphs there are between them.
 use latex2mathml::search::next_pair;
 ghost use mathlib.Core.Path.{_≡_};
 ghost use Prim.Native.Nat.{_≤_};
 ghost use lib.ListN.{length, drop};
 ghost use Rattle.latex2mathml.specs.Dollars.{nextPlace};
 ghost use Rattle.page.specs.Breaks.{twoLineFeeds, noLineFeed};
+ghost use Rattle.page.specs.Pieces.{pieces};
+ghost use Rattle.page.specs.Page.{paragraphs};
 
 // The place of the first two line feeds from a place on, or the length.
 pub fn next_break(s: &[u8], from: usize) -> usize
@@ -27,4 +29,20 @@ pub fn break_end(s: &[u8], from: usize) -> usize
         i += 1;
     }
     i
+}
+
+// The number of paragraphs.
+pub fn count_paragraphs(document: &[u8]) -> usize
+    ensures { λ r. ⌜ r ≡ paragraphs (pieces (now (document .entry))) ⌝ }
+{
+    let mut k: usize = 0;
+    let mut from: usize = 0;
+    loop {
+        let e = next_break(document, from);
+        k += 1;
+        if e == document.len() {
+            return k;
+        }
+        from = break_end(document, e);
+    }
 }

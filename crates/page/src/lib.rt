@@ -3,13 +3,18 @@ mod breaks;
 mod draft;
 mod write;
 
+use crate::breaks::count_paragraphs;
 use crate::draft::draft_page;
 use crate::write::write_page;
 use error::Refusal;
+use latex2mathml::dollars::is_prose;
 use text::put::put;
 use token::table::table;
-ghost use Prim.Native.Nat.{_*_, _≤_, _<_};
+ghost use mathlib.Core.Path.{_≡_};
+ghost use mathlib.Core.Bool.{true};
+ghost use Prim.Native.Nat.{ℕ, _*_, _≤_, _<_};
 ghost use lib.ListN.{length};
+ghost use Rattle.latex2mathml.specs.Dollars.{isProse};
 ghost use Rattle.latex2mathml.specs.Written.{Free};
 ghost use Rattle.page.specs.Run.{Pages};
 
@@ -62,12 +67,29 @@ fn short_page(document: &[u8], store: &mut [u8], work: &mut [u8], out: &mut [u8]
     page_in(document, store, work, out, &mut draft, &mut left)
 }
 
+// The page operation on prose that the work buffer has room for: it is copied without a draft, and no paragraph is left.
+fn prose_page(document: &[u8], out: &mut [u8]) -> PageAnswer
+    requires { ⌜ (isProse (now document) ≡ true) × (length (now document) ≤ 32768) ⌝ }
+    ensures { λ r. ⌜ ((store work : ℕ) → length (now (document .entry)) ≤ work → Pages (now (document .entry)) store work r (now (out .entry)) (now (out .exit))) ⌝ }
+{
+    if out.len() < document.len() {
+        return PageAnswer::Refused(Refusal::OutputTooSmall);
+    }
+    let n = put(document, out, 0, true);
+    PageAnswer::Accepted(n, count_paragraphs(document), 0)
+}
+
 // The page operation; a document of 32,768 bytes has at most 16,385 paragraphs.
 pub fn page(document: &[u8], store: &mut [u8], work: &mut [u8], out: &mut [u8]) -> PageAnswer
     ensures { λ r. ⌜ Pages (now (document .entry)) (length (now (store .entry))) (length (now (work .entry))) r (now (out .entry)) (now (out .exit)) × Free (now (store .entry)) (now (store .exit)) × Free (now (work .entry)) (now (work .exit)) ⌝ }
 {
     if 32768 < document.len() {
         return PageAnswer::Refused(Refusal::TooLong);
+    }
+    if document.len() <= work.len() {
+        if is_prose(document) {
+            return prose_page(document, out);
+        }
     }
     if document.len() < 2048 {
         return short_page(document, store, work, out);

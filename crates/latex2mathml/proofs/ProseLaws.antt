@@ -1,0 +1,76 @@
+-- Prose comes out as typed, and its text of pass one is the prose.
+-- Assumes nothing.
+use mathlib.Core.Path.{_≡_, sym, _∙_}
+use mathlib.Core.Bool.{Bool, true, false, and-eq-true-iff}
+use mathlib.Core.List.{List}
+use Prim.Native.Nat.{ℕ, _≤_, _<_}
+use native.Mathlib.Omega.{arith}
+use lib.ListN.{length}
+use borrow.Author.Tests.{lt-ltb, le-ltb}
+use Rattle.text.specs.Follow.{isAscii}
+use Rattle.text.specs.Plain.{plain}
+use Rattle.text.specs.Put.{Puts}
+use Rattle.text.proofs.AsciiLaws.{ascii-well}
+use Rattle.text.proofs.PutLaws.{puts-all}
+use Rattle.attribute.specs.declared.DisplayStyle.{DisplayStyle}
+use Rattle.error.specs.declared.Refusal.{Refusal}
+use Rattle.latex2mathml.specs.declared.Answer.{Answer}
+use Rattle.latex2mathml.specs.Outcome.{accepted, refused, _>>=_, refuse, bytesOf}
+use Rattle.latex2mathml.specs.Replace.{firstPass, secondPass, replacement, replaceOutcome, replace}
+use Rattle.latex2mathml.specs.Dollars.{mark, nextPlace, isProse}
+use Rattle.latex2mathml.specs.Laid.{inRoom}
+use Rattle.latex2mathml.specs.Written.{over, Gives, Replaces}
+use Rattle.latex2mathml.proofs.TranslateLaws.{gives-nothing, gives-markup}
+use Rattle.latex2mathml.proofs.DollarLaws.{plain-none}
+use Rattle.latex2mathml.proofs.ReplaceLaws.{Checked, plain-checked, plain-large, plain-even, plain-passed, first-is, first-long, second-is, replacement-is, replace-refused}
+
+module _ (d : List ℕ) (store work : ℕ) (prose : isProse d ≡ true) where
+  pub sides : (isAscii d ≡ true) × (plain d ≡ true)
+  unfolding isProse
+  sides = and-eq-true-iff (isAscii d) (plain d) .0 prose
+
+  unmarked : (double : Bool) → length d ≡ nextPlace (mark double) 0 d
+  unmarked double = sym (plain-none double d (sides .1))
+
+  second : secondPass store d ≡ accepted d
+  second =
+      second-is store d (plain-even store DisplayStyle.Inline false d (unmarked false)) ∙ plain-passed store DisplayStyle.Inline false d (unmarked false)
+
+  module _ (short : length d ≤ 32768) where
+    checked : Checked d
+    checked = plain-checked d short (sym (ascii-well d (sides .0))) (unmarked true)
+
+    first-large : work < length d → firstPass d store work ≡ refused Refusal.WorkTooSmall
+    first-large l = plain-large d store work checked (unmarked true) l
+
+    first : length d ≤ work → firstPass d store work ≡ accepted d
+    unfolding refuse _>>=_
+    first l = first-is d store work checked ∙ rw (plain-passed store DisplayStyle.Block true d (unmarked true), le-ltb work (length d) l)
+
+    pub prose-typed : length d ≤ work → replacement d store work ≡ accepted d
+    prose-typed l = replacement-is d store work d (first l) ∙ second
+
+-- The replacement in prose.
+module _ (d : List ℕ) (store : ℕ) (w o : List ℕ) (prose : isProse d ≡ true) where
+  pub prose-long : 32768 < length d → Replaces d store (Answer.Refused Refusal.TooLong) w w o o
+  prose-long l = replace-refused d store w o Refusal.TooLong (first-long d store (length w) l)
+
+  module _ (short : length d ≤ 32768) where
+    pub prose-large : length w < length d → Replaces d store (Answer.Refused Refusal.WorkTooSmall) w w o o
+    prose-large l = replace-refused d store w o Refusal.WorkTooSmall (first-large d store (length w) prose short l)
+
+    module _ (fits : length d ≤ length w) {w′ : List ℕ} {n : ℕ} (copied : Puts true w w′ 0 d n) where
+      replaced : {o′ : List ℕ} (r : Answer) → Gives (inRoom (length o) (accepted d)) r o o′ → Replaces d store r w w′ o o′
+      unfolding replace replaceOutcome replacement _>>=_ bytesOf over
+      replaced r g = record {
+        gives = rw (first d store (length w) prose short fits, second d store (length w) prose) g;
+        work = rw (first d store (length w) prose short fits) (puts-all copied);
+      }
+
+      pub prose-full : length o < length d → Replaces d store (Answer.Refused Refusal.OutputTooSmall) w w′ o o
+      unfolding refuse _>>=_
+      prose-full l = replaced (Answer.Refused Refusal.OutputTooSmall) (gives-nothing o (rw (lt-ltb (length o) (length d) l)))
+
+      pub prose-replaced : length d ≤ length o → {o′ : List ℕ} {r : ℕ} → Puts true o o′ 0 d r → Replaces d store (Answer.Accepted r) w w′ o o′
+      unfolding refuse _>>=_
+      prose-replaced l {o′} {r} p = replaced (Answer.Accepted r) (gives-markup (rw (le-ltb (length o) (length d) l)) (p .place) p)
