@@ -1,4 +1,4 @@
-//! Stored cases whose answer is the crate's, or the model's where document 02 decides a body; an input for which document 01 decides gives none.
+//! Stored cases whose answer is the crate's, or the model's where document 02 decides a body, or 14 for a NUL; an input for which document 01 decides gives none.
 
 use crate::model;
 use crate::oracle::{self, Answer};
@@ -34,8 +34,20 @@ fn translated(latex: &str, block: bool) -> (Answer, Source) {
     }
 }
 
+/// A case that a NUL refuses.
+fn with_nul(ask: Ask, text: &str) -> Stored {
+    Stored {
+        number: 14,
+        source: Source::Document02,
+        ..Stored::new(ask, text)
+    }
+}
+
 /// A body in both displays.
 pub fn body(latex: &str) -> Option<Stored> {
+    if latex.contains('\0') {
+        return Some(with_nul(Ask::Both, latex));
+    }
     let mut case = Stored::new(Ask::Both, latex);
     let (block, source) = translated(latex, true);
     let (inline, _) = translated(latex, false);
@@ -96,6 +108,13 @@ fn pass(text: &str, width: usize, source: &mut Source) -> Answer {
 
 /// A document by the crate's own `replace` where it decides, and by two passes over its bodies where document 02 does.
 pub fn replaced(text: &str) -> Replaced {
+    if text.contains('\0') {
+        return Replaced {
+            answer: Err(14),
+            work: String::new(),
+            source: Source::Document02,
+        };
+    }
     let mut source = Source::Crate;
     let first = pass(text, 2, &mut source);
     let second = first
@@ -113,6 +132,9 @@ pub fn replaced(text: &str) -> Replaced {
 }
 
 pub fn document(text: &str) -> Option<Stored> {
+    if text.contains('\0') {
+        return Some(with_nul(Ask::Document, text));
+    }
     if text.contains("$$$") {
         return None;
     }

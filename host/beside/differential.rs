@@ -29,7 +29,7 @@ const STACK: usize = 1 << 30;
 const BATCH: u64 = 2_000;
 const REPORTED: usize = 10;
 /// One more than the largest number of a refusal.
-const NUMBERS: usize = 14;
+const NUMBERS: usize = 15;
 
 type Make = Box<dyn Fn(u64) -> Option<Case>>;
 
@@ -75,6 +75,7 @@ fn fixed_kinds(words: &'static Words) -> Vec<Kind> {
         fixed_kind("short bytes", fixed::short_bytes),
         fixed_kind("short documents", fixed::short_documents),
         fixed_kind("short pages", fixed::short_pages),
+        fixed_kind("nuls", fixed::nuls),
         fixed_kind("characters", fixed::character),
         fixed_kind("scripts", fixed::scripts),
         fixed_kind("tokens", fixed::tokens),

@@ -191,6 +191,46 @@ fn scripts_in_order() -> Vec<Stored> {
     ]
 }
 
+/// §3: a NUL anywhere in a body or a document, directly behind 2; a page keeps that paragraph as typed.
+#[rustfmt::skip]
+fn nuls() -> Vec<Stored> {
+    let bodies = [
+        "\0", "\0a", "a\0", "a\0b", "x_\0b", "\\sqrt\0a", "\\\0", "{\0", "{\0}", "\\left\0", "\\middle\0|", "x_a_\0", " \0", "\\zz\0", "\\text{a\0}", "\0\0",
+    ];
+    let documents = [
+        "\0", "prose\0", "$a\0$", "$$a\0$$", "\0$", "$\0", "$$$\0", "$$$$\0", "$$\0$$$$", "$x$\0", "$${$$ \0", "$\\middle$ \0", "$$\\$ $$\0",
+    ];
+    let long = [b"\0".repeat(4_096), b"\0".repeat(4_097), b"\0".repeat(32_768), b"\0".repeat(32_769)];
+    let x = inline("<mi>x</mi>");
+    let nowhere = |case: Stored| case.store(0).work(0).output(0);
+    let mut cases: Vec<Stored> = bodies.iter().map(|latex| refused(Ask::Both, latex, 14)).collect();
+    cases.extend(bodies.iter().map(|latex| nowhere(refused(Ask::Both, latex, 14))));
+    cases.extend(documents.iter().map(|text| refused(Ask::Document, text, 14)));
+    cases.extend(documents.iter().map(|text| nowhere(refused(Ask::Document, text, 14))));
+    cases.extend(documents.iter().map(|text| scope(Ask::Page, text).gives(text).counts(1, 1)));
+    cases.extend([
+        refused(Ask::Both, b"\0\xff", 2),
+        refused(Ask::Both, b"\xff\0", 2),
+        refused(Ask::Document, b"\0\xff", 2),
+        refused(Ask::Document, b"$$$$\0\xff", 2),
+        refused(Ask::Both, &long[0], 14),
+        refused(Ask::Both, &long[1], 1),
+        refused(Ask::Document, &long[2], 14),
+        refused(Ask::Document, &long[3], 1),
+        refused(Ask::Page, &long[3], 1),
+        scope(Ask::Page, &long[2]).gives(&long[2]).counts(1, 1),
+        body("\\", undefined(r#"Command(\"\\0\")"#)),
+        body("x_\\", sub(&mi('x'), &undefined(r#"Command(\"\\0\")"#))),
+        scope(Ask::Page, "\0\n\n$\0$\n\n\0$").gives("\0\n\n$\0$\n\n\0$").counts(3, 3),
+        scope(Ask::Page, "$x$\n\n\0\n\n$x$").gives(format!("{x}\n\n\0\n\n{x}")).counts(3, 1),
+        scope(Ask::Page, "$x$ \0\n\n$x$").gives(format!("$x$ \0\n\n{x}")).counts(2, 1),
+        scope(Ask::Page, "\n\0\n").gives("\n\0\n").counts(1, 1),
+        refused(Ask::Page, "$x$\n\n\0", 12).output(85),
+        scope(Ask::Page, "$x$\n\n\0").gives(format!("{x}\n\n\0")).counts(2, 1).output(86),
+    ]);
+    cases
+}
+
 pub fn cases() -> Vec<Stored> {
     let parts = [
         both_scripts(),
@@ -199,6 +239,7 @@ pub fn cases() -> Vec<Stored> {
         repeated_marks(),
         depths(),
         scripts_in_order(),
+        nuls(),
     ];
     let cases = parts.into_iter().flatten();
     cases

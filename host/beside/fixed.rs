@@ -1,11 +1,10 @@
-//! The cases that are gone through one by one: characters, commands, sequences of tokens and of scripts, short documents and pages.
+//! The cases that are gone through one by one: characters, commands, sequences of tokens and of scripts, NULs, short documents and pages.
 
-use crate::case::{Case, Operation, Rule};
+use crate::case::{Case, Operation, Rule, Size};
 use crate::words::Words;
 
 /// Every kind of token and every class of character that the lexer or the parser tells apart.
-const TOKENS: [&str; 60] = [
-    "\0",
+const TOKENS: [&str; 59] = [
     " ",
     "a",
     "Z",
@@ -68,7 +67,7 @@ const TOKENS: [&str; 60] = [
 ];
 
 /// Further tokens that stand around each command.
-const MORE_TOKENS: [&str; 5] = ["\\quad", "\\langle", "\\tbinom", "\\\0", ":="];
+const MORE_TOKENS: [&str; 4] = ["\\quad", "\\langle", "\\tbinom", ":="];
 
 /// What has scripts: plain bases, what takes marks for itself, and commands whose operand has them.
 const BASES: [&str; 16] = [
@@ -113,6 +112,9 @@ const ENDS: [&str; 6] = ["", "^", "_ {", "'", "}", "\\middle a"];
 const DOCUMENT: [&str; 6] = ["$", "$$", "x", "\\", "{", "}"];
 const PAGE: [&str; 5] = ["\n", "\n\n", "$", "x", "{"];
 
+/// A NUL and what refuses before or behind it, an ill-formed byte among them.
+const NULS: [&[u8]; 7] = [b"\0", b"x", b"$", b"{", b"\n\n", b"\xff", b"\\"];
+
 /// Writes the pieces of a sequence behind one another, with a space only where two would become one token.
 fn join(pieces: &[&str]) -> String {
     let mut text = String::new();
@@ -129,7 +131,7 @@ fn join(pieces: &[&str]) -> String {
 }
 
 /// The sequence with this index among those of the given length.
-fn sequence<'a>(list: &[&'a str], length: u32, mut index: u64) -> Vec<&'a str> {
+fn sequence<'a, T: ?Sized>(list: &[&'a T], length: u32, mut index: u64) -> Vec<&'a T> {
     let mut pieces = Vec::with_capacity(length as usize);
     for _ in 0..length {
         pieces.push(list[(index % list.len() as u64) as usize]);
@@ -267,6 +269,31 @@ fn text(operation: Operation, list: &[&str], longest: u32, index: u64) -> Option
         operation,
         input: sequence(list, length, at).concat().into_bytes(),
         rule: Rule::enough(index),
+    })
+}
+
+/// Every sequence of up to five as each operation's input, with enough lent and with nothing.
+pub fn nuls(index: u64) -> Option<Case> {
+    let (length, at) = within(NULS.len() as u64, 5, index / 6)?;
+    let input: Vec<&[u8]> = sequence(&NULS, length, at);
+    let operations = [
+        Operation::Body { block: true },
+        Operation::Replacement,
+        Operation::Page,
+    ];
+    let nothing = Size::Fixed(0);
+    let rules = [
+        Rule::enough(index),
+        Rule {
+            store: nothing,
+            work: nothing,
+            output: nothing,
+        },
+    ];
+    Some(Case {
+        operation: operations[index as usize % 3],
+        input: input.concat(),
+        rule: rules[index as usize / 3 % 2],
     })
 }
 

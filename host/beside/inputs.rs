@@ -1,4 +1,4 @@
-//! The inputs that the crate answers, or document 02's rule for scripts: every command, every character, every arm of the parser and the printer, and a sample of random ones.
+//! The inputs that the crate answers, or document 02: every command, every character, every arm of the parser and the printer, and a sample of random ones.
 
 use crate::case::Case;
 use crate::random::Random;

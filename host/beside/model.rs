@@ -1,6 +1,6 @@
 //! A parser apart from the crate's and the port's, which builds the crate's nodes: document 02 decides scripts, and document 01 the calls open together.
 //!
-//! A body that document 02 does not decide is held to the crate, its number and its markup; but for 10, since the crate has no limit.
+//! No body that is read here has a NUL. A body that document 02 does not decide is held to the crate, its number and its markup; but for 10, since the crate has no limit.
 
 use crate::oracle::{wrapped, Answer};
 use latex2mathml::ast::Node;

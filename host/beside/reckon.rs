@@ -154,7 +154,7 @@ impl Reckoner {
         answer
     }
 
-    /// A body that is well formed: 1, 3, then the parser's refusals.
+    /// A body that is well formed and has no NUL: 1, 3, then the parser's refusals.
     fn body(&mut self, latex: &str, block: bool, store: usize) -> Result<Rc<Body>, u32> {
         if latex.len() > BODY_LIMIT {
             self.ours = true;
@@ -189,6 +189,9 @@ impl Reckoner {
         let Ok(latex) = std::str::from_utf8(latex) else {
             return refused(2);
         };
+        if latex.contains('\0') {
+            return refused(14);
+        }
         let body = match self.body(latex, block, lent.store) {
             Ok(body) => body,
             Err(number) => return refused(number),
@@ -250,6 +253,9 @@ impl Reckoner {
         let Ok(document) = std::str::from_utf8(document) else {
             return refused(2);
         };
+        if document.contains('\0') {
+            return refused(14);
+        }
         self.ours = false;
         let expected = self.two_passes(document, lent);
         if self.needed.is_some() && !self.ours {

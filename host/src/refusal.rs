@@ -31,13 +31,15 @@ pub enum Refusal {
     OutputTooSmall,
     /// 13: a mark repeated on one base
     RepeatedMark,
+    /// 14: a NUL byte in a body or a document
+    NulByte,
     /// An answer that the documents do not have, which only another version of the archive can give.
     Unknown(u32),
 }
 
 impl Refusal {
     /// All of them, in the order of their numbers.
-    pub const ALL: [Refusal; 13] = [
+    pub const ALL: [Refusal; 14] = [
         Refusal::TooLong,
         Refusal::IllFormed,
         Refusal::StoreTooSmall,
@@ -51,6 +53,7 @@ impl Refusal {
         Refusal::WorkTooSmall,
         Refusal::OutputTooSmall,
         Refusal::RepeatedMark,
+        Refusal::NulByte,
     ];
 
     /// The refusal that a number stands for; 0 stands for none.
@@ -77,6 +80,7 @@ impl Refusal {
             Refusal::WorkTooSmall => 11,
             Refusal::OutputTooSmall => 12,
             Refusal::RepeatedMark => 13,
+            Refusal::NulByte => 14,
             Refusal::Unknown(number) => number,
         }
     }
@@ -97,6 +101,7 @@ impl Refusal {
             Refusal::WorkTooSmall => "WorkTooSmall",
             Refusal::OutputTooSmall => "OutputTooSmall",
             Refusal::RepeatedMark => "RepeatedMark",
+            Refusal::NulByte => "NulByte",
             Refusal::Unknown(_) => "Unknown",
         }
     }
@@ -117,6 +122,7 @@ impl Refusal {
             Refusal::WorkTooSmall => "The formulas between double dollars come out too long together: split the paragraph.",
             Refusal::OutputTooSmall => "What comes out is longer than the memory that is set aside for it: make the text shorter.",
             Refusal::RepeatedMark => "Two `_`, or two `^`, stand on the same sign: put braces around what belongs together, as in `x_{a_b}`.",
+            Refusal::NulByte => "A NUL, a character that does not show, stands in the text: delete the words around it and type them again.",
             Refusal::Unknown(_) => "The archive gave an answer that is not known here: build it and this program from the same sources.",
         }
     }
@@ -152,15 +158,16 @@ mod tests {
     #[test]
     fn the_numbers_have_no_gap() {
         let numbers: Vec<u32> = Refusal::ALL.iter().map(|r| r.number()).collect();
-        assert_eq!(numbers, [1, 2, 3, 4, 5, 6, 7, 8, 9, 10, 11, 12, 13]);
+        assert_eq!(numbers, [1, 2, 3, 4, 5, 6, 7, 8, 9, 10, 11, 12, 13, 14]);
         assert_eq!(Refusal::from_number(4), Refusal::InvalidNumberOfDollarSigns);
         assert_eq!(Refusal::from_number(12), Refusal::OutputTooSmall);
         assert_eq!(Refusal::from_number(13), Refusal::RepeatedMark);
+        assert_eq!(Refusal::from_number(14), Refusal::NulByte);
     }
 
     #[test]
     fn other_numbers_are_unknown() {
-        for number in [0, 14, u32::MAX] {
+        for number in [0, 15, u32::MAX] {
             assert_eq!(Refusal::from_number(number), Refusal::Unknown(number));
             assert_eq!(Refusal::Unknown(number).number(), number);
         }

@@ -77,10 +77,6 @@ fn the_lines_of_document_01() {
             r"\begin{align}a&b\end{q}",
             "<mtable columnalign=left><mtr><mtd><mi>a</mi></mtd><mtd><mi>b</mi></mtd></mtr></mtable>",
         ),
-        (
-            "x_\0b",
-            r#"<msub><mi>x</mi><mtext>[PARSE ERROR: Undefined("EOF")]</mtext></msub><mi>b</mi>"#,
-        ),
     ];
     for (latex, markup) in lines {
         for display in [Block, Inline] {
@@ -159,6 +155,19 @@ fn body_2_ill_formed() {
     }
     let markup = block("<mi mathvariant=\"normal\">\u{10FFFF}</mi>");
     body("\u{10FFFF}".as_bytes(), Block, AMPLE, Ok(&markup));
+}
+
+/// Document 02, §3: a NUL is looked for directly behind 2.
+#[test]
+fn body_14_between_2_and_3() {
+    for latex in ["\0", "a\0", "\0a", "x_\0b", "\\\0", "{\0", "x_a_\0"] {
+        body(latex.as_bytes(), Block, AMPLE, Err(14));
+        body(latex.as_bytes(), Inline, NOTHING, Err(14));
+    }
+    body(b"\0\xFF", Block, AMPLE, Err(2));
+    body(b"\xFF\0", Block, NOTHING, Err(2));
+    body(&[0; 4_097], Block, AMPLE, Err(1));
+    body(&[0; 4_096], Block, AMPLE, Err(14));
 }
 
 #[test]
@@ -294,6 +303,21 @@ fn replacement_2_before_the_dollars() {
     replacement(b"$\xE2\x88$", NOTHING, Err(2), None);
 }
 
+/// Document 02, §3: a NUL anywhere in a document, in prose too, before the dollars are counted.
+#[test]
+fn replacement_14_between_2_and_4() {
+    let texts = [
+        "\0", "a\0", "$a\0$", "$$\0$$", "\0$", "$$$\0", "$$$$\0", "$x$ \0", "$${$$\0",
+    ];
+    for text in texts {
+        replacement(text.as_bytes(), AMPLE, Err(14), None);
+        replacement(text.as_bytes(), NOTHING, Err(14), None);
+    }
+    replacement(b"\0\xFF", AMPLE, Err(2), None);
+    replacement(&[0; 32_769], AMPLE, Err(1), None);
+    replacement(&[0; 32_768], AMPLE, Err(14), None);
+}
+
 #[test]
 fn replacement_3_in_each_pass() {
     replacement(b"$$a$$", store(47), Err(3), None);
@@ -419,6 +443,8 @@ fn left() -> Vec<(u32, Vec<u8>, Sizes)> {
         (4, b"$$a".to_vec(), AMPLE),
         (5, b"a$$$".to_vec(), AMPLE),
         (11, b"$$a$$".to_vec(), work(81)),
+        (14, b"a\0b".to_vec(), AMPLE),
+        (14, b"$x\0$".to_vec(), AMPLE),
     ];
     for (number, latex) in parsing() {
         cases.push((number, ["$", &latex, "$"].concat().into_bytes(), AMPLE));
@@ -444,7 +470,7 @@ fn page_leaves_a_paragraph_refused_by_any_number_but_12() {
     }
     met.sort_unstable();
     met.dedup();
-    assert_eq!(met, [1, 2, 3, 4, 5, 6, 7, 8, 9, 10, 11, 13]);
+    assert_eq!(met, [1, 2, 3, 4, 5, 6, 7, 8, 9, 10, 11, 13, 14]);
 }
 
 #[test]

@@ -41,6 +41,7 @@ const TEN: &str =
 const ELEVEN: &str = "    11 WorkTooSmall: The formulas between double dollars come out too long together: split the paragraph.";
 const TWELVE: &str = "    12 OutputTooSmall: What comes out is longer than the memory that is set aside for it: make the text shorter.";
 const THIRTEEN: &str = "    13 RepeatedMark: Two `_`, or two `^`, stand on the same sign: put braces around what belongs together, as in `x_{a_b}`.";
+const FOURTEEN: &str = "    14 NulByte: A NUL, a character that does not show, stands in the text: delete the words around it and type them again.";
 
 #[test]
 fn nothing_stays_as_typed() {
@@ -210,6 +211,19 @@ fn a_mark_repeated_on_one_base() {
         "1 of 2 paragraphs stays as typed.",
     ]);
     assert_eq!(explain(b"$p_u^2$\n\n$p_u$ and $p_u_2$"), want);
+}
+
+/// It is found before any formula is read, so none is named.
+#[test]
+fn a_nul_in_the_text_or_in_a_formula() {
+    let want = lines(&[
+        "Paragraph 1, line 1, stays as typed.",
+        FOURTEEN,
+        "Paragraph 2, lines 3 to 4, stays as typed.",
+        FOURTEEN,
+        "2 of 3 paragraphs stay as typed.",
+    ]);
+    assert_eq!(explain(b"The gate\0\n\n$x$ and\n${\0$\n\n$y$"), want);
 }
 
 /// A closing brace alone prints 49 bytes, so two formulas of 1,000 are too long for the work buffer together.

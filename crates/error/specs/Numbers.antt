@@ -17,6 +17,7 @@ use Rattle.error.specs.declared.Refusal.the-variants.{
   WorkTooSmall,
   OutputTooSmall,
   RepeatedMark,
+  NulByte,
 }
 
 unfoldable pub number : Refusal → ℕ
@@ -33,3 +34,4 @@ number TooDeep = 10
 number WorkTooSmall = 11
 number OutputTooSmall = 12
 number RepeatedMark = 13
+number NulByte = 14

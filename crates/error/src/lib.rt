@@ -1,4 +1,4 @@
-// Why an operation refuses: the Rust's error.rs, whose `LatexError` is some of these, each with the number of document 01.
+// Why an operation refuses: the Rust's error.rs, whose `LatexError` is some of these, each with its number, of document 01 or of a request of document 02.
 
 pub enum Refusal {
     TooLong,
@@ -14,4 +14,5 @@ pub enum Refusal {
     WorkTooSmall,
     OutputTooSmall,
     RepeatedMark,
+    NulByte,
 }

@@ -8,6 +8,7 @@ use native.Mathlib.Omega.{arith}
 use native.Mathlib.Nat.{le-refl}
 use lib.ListN.{length}
 use Rattle.text.specs.Utf8.{wellFormed}
+use Rattle.text.specs.Nul.{hasNul}
 use Rattle.text.specs.Put.{put, Room, Puts}
 use Rattle.text.proofs.Cases.{never}
 use Rattle.attribute.specs.declared.DisplayStyle.{DisplayStyle}
@@ -86,19 +87,19 @@ module _ {s st : List ℕ} {first n hi : ℕ} (store : ℕ) (b : StoresBody s st
           let l = long in
           able true o₁ (λ e. omega arith)
 
-      pub too-large : wellFormed s ≡ true → length o₁ < r → Gives (translate s display store (length o)) (Answer.Refused Refusal.OutputTooSmall) o o₁
-      too-large e lt =
+      pub too-large : wellFormed s ≡ true → hasNul s ≡ false → length o₁ < r → Gives (translate s display store (length o)) (Answer.Refused Refusal.OutputTooSmall) o o₁
+      too-large e n lt =
           let l = long in
           let z = ap length same in
-          rw same (gives-nothing o (body-too-large s display store (length o) h e (b .is) (omega arith)))
+          rw same (gives-nothing o (body-too-large s display store (length o) h e n (b .is) (omega arith)))
 
-      pub written : {o₂ : List ℕ} {r₂ : ℕ} → wellFormed s ≡ true → r ≤ length o₁ → Prints (NodesAt s st hi first n) (λ ns. inMath display (printAll s ns)) true o₁ o₂ 0 r₂
+      pub written : {o₂ : List ℕ} {r₂ : ℕ} → wellFormed s ≡ true → hasNul s ≡ false → r ≤ length o₁ → Prints (NodesAt s st hi first n) (λ ns. inMath display (printAll s ns)) true o₁ o₂ 0 r₂
           → Gives (translate s display store (length o)) (Answer.Accepted r) o o₂
-      written {o₂} {r₂} e fits p =
+      written {o₂} {r₂} e n fits p =
           let l = long in
           let z = ap length same in
           let q : Puts true o o₂ 0 markup r₂ = rw same at (p .all (b .nodes) there (room true o₁ (λ t. omega arith))) in
-          gives-markup (body-fits s display store (length o) h e (b .is) (omega arith)) l q
+          gives-markup (body-fits s display store (length o) h e n (b .is) (omega arith)) l q
 
   -- ---- laid at a place, as a body of a document
   module _ (display : DisplayStyle) (sure : Bool) (o : List ℕ) (at : ℕ) (room-for : RoomFor (translateBody store display s) sure o at) where

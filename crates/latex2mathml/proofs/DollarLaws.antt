@@ -14,7 +14,7 @@ use Rattle.text.specs.Plain.{plain}
 use Rattle.text.proofs.Cases.{never, by-test, by-order, both}
 use Rattle.text.proofs.PlainLaws.{plain-cons, plain-drop}
 use Rattle.latex2mathml.specs.Replace.{dollar, twoDollars, threeDollars, places, odd}
-use Rattle.latex2mathml.specs.Dollars.{mark, width, nextPlace}
+use Rattle.latex2mathml.specs.Dollars.{mark, width, nextPlace, unusual, allUsual}
 use Rattle.latex2mathml.specs.Search.{startsWith, pair}
 use Rattle.latex2mathml.proofs.PlaceLaws.{next-is, next-none, places-here, places-more, places-end, places-none, places-first, skipped}
 
@@ -204,6 +204,20 @@ module _ (s : List ℕ) (i : ℕ) (p : Bool) where
   pub plain-end : length s ≤ i → (p && plain (drop i s)) ≡ p
   unfolding plain
   plain-end h = rw (drop-of-length-le s h) (and-true p)
+
+-- Whether the bytes from i on are usual, with p for those before.
+module _ (s : List ℕ) (i : ℕ) (p : Bool) where
+  pub usual-here : i < length s → unusual (getD s i 0) ≡ true → (p && allUsual (drop i s)) ≡ false
+  unfolding allUsual
+  usual-here l e = rw (drop-cons s i 0 l, allUsual, e) (and-false p)
+
+  pub usual-more : i < length s → unusual (getD s i 0) ≡ false → (p && allUsual (drop i s)) ≡ (p && allUsual (drop (i + 1) s))
+  unfolding allUsual
+  usual-more l e = rw (add-one, drop-cons s i 0 l, allUsual, e)
+
+  pub usual-end : length s ≤ i → (p && allUsual (drop i s)) ≡ p
+  unfolding allUsual
+  usual-end h = rw (drop-of-length-le s h) (and-true p)
 
 -- where no three dollars stand in a row, the marks behind a mark are those behind its last dollar
 pub record Behind (double : Bool) (s : List ℕ) (a : ℕ) : Type 0 where

@@ -30,6 +30,7 @@ number-range Refusal.TooDeep = (omega arith, omega arith)
 number-range Refusal.WorkTooSmall = (omega arith, omega arith)
 number-range Refusal.OutputTooSmall = (omega arith, omega arith)
 number-range Refusal.RepeatedMark = (omega arith, omega arith)
+number-range Refusal.NulByte = (omega arith, omega arith)
 
 -- a first step's result, with which the second is accepted
 pub record Steps {A B : Type 0} (first : Outcome A) (second : A → Outcome B) (b : B) : Type 0 where

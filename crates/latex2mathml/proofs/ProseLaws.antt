@@ -1,15 +1,18 @@
 -- Prose comes out as typed, and its text of pass one is the prose.
 -- Assumes nothing.
-use mathlib.Core.Path.{_≡_, sym, _∙_}
-use mathlib.Core.Bool.{Bool, true, false, and-eq-true-iff}
-use mathlib.Core.List.{List}
+use mathlib.Core.Path.{_≡_, refl, sym, _∙_}
+use mathlib.Core.Bool.{Bool, true, false, not, and-eq-true-iff}
+use mathlib.Core.List.{List, [], _∷_}
 use Prim.Native.Nat.{ℕ, _≤_, _<_}
 use native.Mathlib.Omega.{arith}
+use lib.Dec.{eqb, ltb}
 use lib.ListN.{length}
-use borrow.Author.Tests.{lt-ltb, le-ltb}
+use borrow.Author.Tests.{lt-ltb, le-ltb, not-true}
 use Rattle.text.specs.Follow.{isAscii}
+use Rattle.text.specs.Nul.{hasNul}
 use Rattle.text.specs.Plain.{plain}
 use Rattle.text.specs.Put.{Puts}
+use Rattle.text.proofs.Cases.{never, by-test}
 use Rattle.text.proofs.AsciiLaws.{ascii-well}
 use Rattle.text.proofs.PutLaws.{puts-all}
 use Rattle.attribute.specs.declared.DisplayStyle.{DisplayStyle}
@@ -17,17 +20,29 @@ use Rattle.error.specs.declared.Refusal.{Refusal}
 use Rattle.latex2mathml.specs.declared.Answer.{Answer}
 use Rattle.latex2mathml.specs.Outcome.{accepted, refused, _>>=_, refuse, bytesOf}
 use Rattle.latex2mathml.specs.Replace.{firstPass, secondPass, replacement, replaceOutcome, replace}
-use Rattle.latex2mathml.specs.Dollars.{mark, nextPlace, isProse}
+use Rattle.latex2mathml.specs.Dollars.{mark, nextPlace, unusual, allUsual, isProse}
 use Rattle.latex2mathml.specs.Laid.{inRoom}
 use Rattle.latex2mathml.specs.Written.{over, Gives, Replaces}
 use Rattle.latex2mathml.proofs.TranslateLaws.{gives-nothing, gives-markup}
 use Rattle.latex2mathml.proofs.DollarLaws.{plain-none}
 use Rattle.latex2mathml.proofs.ReplaceLaws.{Checked, plain-checked, plain-large, plain-even, plain-passed, first-is, first-long, second-is, replacement-is, replace-refused}
 
+-- usual bytes are ASCII, and none is NUL
+usual-ascii : (l : List ℕ) → allUsual l ≡ true → (isAscii l ≡ true) × (hasNul l ≡ false)
+unfolding allUsual unusual isAscii hasNul
+usual-ascii [] e = (refl, refl)
+usual-ascii (b ∷ l) e =
+    let h = and-eq-true-iff (not (unusual b)) (allUsual l) .0 e in
+    let none = not-true (unusual b) (h .0) in
+    let rest = usual-ascii l (h .1) in
+    by-test (eqb b 0)
+    (λ t. let z = rw (unusual, t) at none in never cc)
+    (λ t. let low = rw (unusual, t) at none in (rw (isAscii, low) (rest .0), rw (hasNul, t) (rest .1)))
+
 module _ (d : List ℕ) (store work : ℕ) (prose : isProse d ≡ true) where
-  pub sides : (isAscii d ≡ true) × (plain d ≡ true)
+  pub sides : (allUsual d ≡ true) × (plain d ≡ true)
   unfolding isProse
-  sides = and-eq-true-iff (isAscii d) (plain d) .0 prose
+  sides = and-eq-true-iff (allUsual d) (plain d) .0 prose
 
   unmarked : (double : Bool) → length d ≡ nextPlace (mark double) 0 d
   unmarked double = sym (plain-none double d (sides .1))
@@ -38,7 +53,9 @@ module _ (d : List ℕ) (store work : ℕ) (prose : isProse d ≡ true) where
 
   module _ (short : length d ≤ 32768) where
     checked : Checked d
-    checked = plain-checked d short (sym (ascii-well d (sides .0))) (unmarked true)
+    checked =
+        let h = usual-ascii d (sides .0) in
+        plain-checked d short (sym (ascii-well d (h .0))) (h .1) (unmarked true)
 
     first-large : work < length d → firstPass d store work ≡ refused Refusal.WorkTooSmall
     first-large l = plain-large d store work checked (unmarked true) l

@@ -11,6 +11,7 @@ use lib.ListN.{length, take, drop, length-append}
 use lib.Seq.{take-at, length-take-le}
 use borrow.Author.Tests.{ltb-false, lt-ltb, le-ltb, not-false}
 use Rattle.text.specs.Utf8.{wellFormed}
+use Rattle.text.specs.Nul.{hasNul}
 use Rattle.text.specs.Put.{Room, Puts}
 use Rattle.text.proofs.Cases.{never}
 use Rattle.text.proofs.PutLaws.{puts-all}
@@ -83,20 +84,25 @@ module _ (d : List ℕ) (store work : ℕ) where
     unfolding firstPass refuse _>>=_ documentLimit
     first-ill-formed e = rw (firstPass, le-ltb 32768 (length d) short, e)
 
-    module _ (well : wellFormed d ≡ true) where
+    pub first-nul : wellFormed d ≡ true → hasNul d ≡ true → firstPass d store work ≡ refused Refusal.NulByte
+    unfolding firstPass refuse _>>=_ documentLimit
+    first-nul well e = rw (firstPass, le-ltb 32768 (length d) short, well, e)
+
+    module _ (well : wellFormed d ≡ true) (no-nul : hasNul d ≡ false) where
       pub first-odd : odd (places twoDollars 0 d) ≡ true → firstPass d store work ≡ refused Refusal.InvalidNumberOfDollarSigns
       unfolding firstPass refuse _>>=_ documentLimit
-      first-odd e = rw (firstPass, le-ltb 32768 (length d) short, well, e)
+      first-odd e = rw (firstPass, le-ltb 32768 (length d) short, well, no-nul, e)
 
       pub first-three : odd (places twoDollars 0 d) ≡ false → ltb 0 (length (places threeDollars 0 d)) ≡ true
           → firstPass d store work ≡ refused Refusal.ThreeDollarSigns
       unfolding firstPass refuse _>>=_ documentLimit
-      first-three even e = rw (firstPass, le-ltb 32768 (length d) short, well, even, e)
+      first-three even e = rw (firstPass, le-ltb 32768 (length d) short, well, no-nul, even, e)
 
 -- a document whose bodies are looked at
 pub record Checked (d : List ℕ) : Type 0 where
   pub short : length d ≤ 32768
   pub well : wellFormed d ≡ true
+  pub noNul : hasNul d ≡ false
   pub even : odd (places twoDollars 0 d) ≡ false
   pub apart : ltb 0 (length (places threeDollars 0 d)) ≡ false
 
@@ -118,10 +124,11 @@ module _ (store : ℕ) (display : DisplayStyle) (double : Bool) (s : List ℕ) (
   plain-laid o o′ at r place laid = record { text = s; is = plain-passed; place = place; laid = laid }
 
 -- no windows, and so no three dollars in a row
-pub plain-checked : (d : List ℕ) → length d ≤ 32768 → wellFormed d ≡ true → length d ≡ nextPlace twoDollars 0 d → Checked d
-plain-checked d short well none = record {
+pub plain-checked : (d : List ℕ) → length d ≤ 32768 → wellFormed d ≡ true → hasNul d ≡ false → length d ≡ nextPlace twoDollars 0 d → Checked d
+plain-checked d short well no-nul none = record {
   short = short;
   well = well;
+  noNul = no-nul;
   even = plain-even 0 DisplayStyle.Block true d none;
   apart = rw (three-none d 0 (length d) (omega arith) none (omega arith) (omega arith));
 }
@@ -129,7 +136,7 @@ plain-checked d short well none = record {
 module _ (d : List ℕ) (store work : ℕ) where
   pub first-is : Checked d → firstPass d store work ≡ (passed store DisplayStyle.Block true d >>= (λ text. refuse (ltb work (length text)) Refusal.WorkTooSmall >>= (λ _. accepted text)))
   unfolding firstPass refuse _>>=_ documentLimit
-  first-is h = rw (firstPass, le-ltb 32768 (length d) (h .short), h .well, h .even, h .apart)
+  first-is h = rw (firstPass, le-ltb 32768 (length d) (h .short), h .well, h .noNul, h .even, h .apart)
 
   -- a text too long for the work buffer
   too-long : (h : Checked d) (text : List ℕ) → passed store DisplayStyle.Block true d ≡ accepted text → work < length text → firstPass d store work ≡ refused Refusal.WorkTooSmall
@@ -170,13 +177,20 @@ module _ (d : List ℕ) (store work : ℕ) where
     first-accepted =
         let short = not-refused (ltb 32768 (length d)) Refusal.TooLong _ text is in
         let well = not-refused (not (wellFormed d)) Refusal.IllFormed _ text (short .1) in
-        let even = not-refused (odd (places twoDollars 0 d)) Refusal.InvalidNumberOfDollarSigns _ text (well .1) in
+        let no-nul = not-refused (hasNul d) Refusal.NulByte _ text (well .1) in
+        let even = not-refused (odd (places twoDollars 0 d)) Refusal.InvalidNumberOfDollarSigns _ text (no-nul .1) in
         let apart = not-refused (ltb 0 (length (places threeDollars 0 d))) Refusal.ThreeDollarSigns _ text (even .1) in
         let read = steps (passed store DisplayStyle.Block true d) _ text (apart .1) in
         let fits = not-refused (ltb work (length (read .value))) Refusal.WorkTooSmall _ text (read .then) in
         let same : read .value ≡ text = let e = fits .1 in cc in
         record {
-          checked = record { short = ltb-false 32768 (length d) (short .0); well = not-false (wellFormed d) (well .0); even = even .0; apart = apart .0 };
+          checked = record {
+            short = ltb-false 32768 (length d) (short .0);
+            well = not-false (wellFormed d) (well .0);
+            noNul = no-nul .0;
+            even = even .0;
+            apart = apart .0;
+          };
           is = read .is ∙ ap (λ x. accepted x) same;
           inside = rw same at (ltb-false work (length (read .value)) (fits .0));
         }

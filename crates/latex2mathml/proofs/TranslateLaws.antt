@@ -10,6 +10,7 @@ use lib.Dec.{ltb}
 use lib.ListN.{length, drop, length-append}
 use borrow.Author.Tests.{ltb-false, lt-ltb, le-ltb}
 use Rattle.text.specs.Utf8.{wellFormed}
+use Rattle.text.specs.Nul.{hasNul}
 use Rattle.text.specs.Text.{bytes}
 use Rattle.text.specs.Put.{Room, Puts}
 use Rattle.text.specs.Examples.{text-opens}
@@ -43,7 +44,11 @@ module _ (s : List ℕ) (display : DisplayStyle) (store room : ℕ) where
   unfolding translate refuse _>>=_ bodyLimit not
   ill-formed h e = rw (translate, le-ltb 4096 (length s) h, e)
 
-  module _ (h : length s ≤ 4096) (e : wellFormed s ≡ true) where
+  pub nul-byte : length s ≤ 4096 → wellFormed s ≡ true → hasNul s ≡ true → translate s display store room ≡ refused Refusal.NulByte
+  unfolding translate refuse _>>=_ bodyLimit
+  nul-byte h e n = rw (translate, le-ltb 4096 (length s) h, e, n)
+
+  module _ (h : length s ≤ 4096) (e : wellFormed s ≡ true) (n : hasNul s ≡ false) where
     pub body-no : {r : Refusal} → parseBody 256 s store ≡ Parsed.refused r → translate s display store room ≡ refused r
     unfolding translate refuse _>>=_ bodyLimit not storeTooSmall recordSize latexToMathml convertContent depthLimit parseBody
     body-no {r} f =
@@ -51,10 +56,10 @@ module _ (s : List ℕ) (display : DisplayStyle) (store room : ℕ) where
         (λ t.
         let g = rw (parseBody, le-ltb 4096 (length s) h, t) at f in
         let q : Refusal.StoreTooSmall ≡ r = cc in
-        rw (← q) (rw (translate, le-ltb 4096 (length s) h, e, storeTooSmall, t)))
+        rw (← q) (rw (translate, le-ltb 4096 (length s) h, e, n, storeTooSmall, t)))
         (λ t.
         let g = rw (parseBody, le-ltb 4096 (length s) h, t) at f in
-        rw (translate, le-ltb 4096 (length s) h, e, storeTooSmall, t, latexToMathml, convertContent, g))
+        rw (translate, le-ltb 4096 (length s) h, e, n, storeTooSmall, t, latexToMathml, convertContent, g))
 
     pub body-is : {ns : Nodes} {p : Parser} → parseBody 256 s store ≡ Parsed.made ns p
         → translate s display store room ≡ (refuse (ltb room (length (inMath display (printAll s ns)))) Refusal.OutputTooSmall >>= (λ u. accepted (inMath display (printAll s ns))))
@@ -64,7 +69,7 @@ module _ (s : List ℕ) (display : DisplayStyle) (store room : ℕ) where
         (λ t. let g = rw (parseBody, le-ltb 4096 (length s) h, t) at f in never cc)
         (λ t.
         let g = rw (parseBody, le-ltb 4096 (length s) h, t) at f in
-        rw (translate, le-ltb 4096 (length s) h, e, storeTooSmall, t, latexToMathml, convertContent, g))
+        rw (translate, le-ltb 4096 (length s) h, e, n, storeTooSmall, t, latexToMathml, convertContent, g))
 
     pub body-too-large : {ns : Nodes} {p : Parser} → parseBody 256 s store ≡ Parsed.made ns p → room < length (inMath display (printAll s ns)) → translate s display store room ≡ refused Refusal.OutputTooSmall
     unfolding refuse _>>=_

@@ -1,9 +1,10 @@
 -- The place of the next mark of a text, and prose, in which there is none.
 -- Assumes nothing.
-use mathlib.Core.Bool.{Bool, true, false, _&&_}
+use mathlib.Core.Bool.{Bool, true, false, not, _&&_, _||_}
 use mathlib.Core.List.{List, [], _∷_}
 use Prim.Native.Nat.{ℕ, suc}
-use Rattle.text.specs.Follow.{isAscii}
+use Prim.Native.Char.{code}
+use lib.Dec.{eqb, ltb}
 use Rattle.text.specs.Plain.{plain}
 use Rattle.latex2mathml.specs.Replace.{dollar, twoDollars}
 
@@ -21,6 +22,14 @@ unfoldable pub nextPlace : (List ℕ → Bool) → ℕ → List ℕ → ℕ
 nextPlace test at [] = at
 nextPlace test at (b ∷ l) = elim (test (b ∷ l)) [ true ↦ at | false ↦ nextPlace test (suc at) l ]
 
--- no byte is above 127, and none is a dollar
+-- a byte is NUL, or not ASCII
+unfoldable pub unusual : ℕ → Bool
+unusual b = eqb b (code "\0") || ltb 0x7f b
+
+unfoldable pub allUsual : List ℕ → Bool
+allUsual [] = true
+allUsual (b ∷ l) = not (unusual b) && allUsual l
+
+-- no byte is NUL or above 127, and none is a dollar
 unfoldable pub isProse : List ℕ → Bool
-isProse l = isAscii l && plain l
+isProse l = allUsual l && plain l

@@ -6,3 +6,4 @@ pub mod Dollars
 pub mod Search
 pub mod Laid
 pub mod Marked
+pub mod Examples

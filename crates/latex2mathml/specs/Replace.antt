@@ -7,6 +7,7 @@ use Prim.Native.Char.{code}
 use lib.Dec.{eqb, ltb}
 use lib.ListN.{length, drop}
 use Rattle.text.specs.Utf8.{wellFormed}
+use Rattle.text.specs.Nul.{hasNul}
 use Rattle.text.specs.Text.{part}
 use Rattle.attribute.specs.declared.DisplayStyle.{DisplayStyle}
 use Rattle.error.specs.declared.Refusal.{Refusal}
@@ -32,7 +33,7 @@ places test at (b ∷ l) = elim (test (b ∷ l)) [ true ↦ at ∷ places test (
 unfoldable pub odd : List ℕ → Bool
 odd l = eqb (length l % 2) 1
 
--- a body of a document, which is well-formed where the document is
+-- a body of a document, which is well-formed where the document is, and has no NUL where the document has none
 unfoldable pub translateBody : ℕ → DisplayStyle → List ℕ → Outcome (List ℕ)
 translateBody store display s = do
   _ ← refuse (ltb bodyLimit (length s)) Refusal.TooLong
@@ -54,6 +55,7 @@ unfoldable pub firstPass : List ℕ → ℕ → ℕ → Outcome (List ℕ)
 firstPass document store work = do
   _ ← refuse (ltb documentLimit (length document)) Refusal.TooLong
   _ ← refuse (not (wellFormed document)) Refusal.IllFormed
+  _ ← refuse (hasNul document) Refusal.NulByte
   let windows = places twoDollars 0 document
   _ ← refuse (odd windows) Refusal.InvalidNumberOfDollarSigns
   _ ← refuse (ltb 0 (length (places threeDollars 0 document))) Refusal.ThreeDollarSigns

@@ -6,6 +6,7 @@ use Prim.Native.Nat.{ℕ, _*_, _/_}
 use lib.Dec.{ltb}
 use lib.ListN.{length}
 use Rattle.text.specs.Utf8.{wellFormed}
+use Rattle.text.specs.Nul.{hasNul}
 use Rattle.text.specs.Text.{bytes}
 use Rattle.attribute.specs.declared.DisplayStyle.{DisplayStyle}
 use Rattle.attribute.specs.Names.{displayStyle}
@@ -36,6 +37,7 @@ unfoldable pub translate : List ℕ → DisplayStyle → ℕ → ℕ → Outcome
 translate s display store room = do
   _ ← refuse (ltb bodyLimit (length s)) Refusal.TooLong
   _ ← refuse (not (wellFormed s)) Refusal.IllFormed
+  _ ← refuse (hasNul s) Refusal.NulByte
   _ ← storeTooSmall store s
   mathml ← latexToMathml s display
   _ ← refuse (ltb room (length mathml)) Refusal.OutputTooSmall

@@ -17,7 +17,7 @@ use Rattle.latex2mathml.specs.Replace.{replace}
 unfoldable pub opening : DisplayStyle → List ℕ
 opening display = bytes "<math xmlns=\"http://www.w3.org/1998/Math/MathML\" display=\"" ++ bytes (displayStyle display) ++ bytes "\">"
 
--- what an answer says: document 01's number, and the length of what was written
+-- what an answer says: its number, and the length of what was written
 unfoldable pub answerNumber : Answer → ℕ
 answerNumber (Answer.Accepted n) = 0
 answerNumber (Answer.Refused r) = number r

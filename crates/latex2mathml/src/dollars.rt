@@ -6,7 +6,7 @@ ghost use Prim.Native.Nat.{_≤_};
 ghost use lib.Dec.{ltb};
 ghost use lib.ListN.{length, drop};
 ghost use Rattle.latex2mathml.specs.Replace.{dollar, twoDollars, threeDollars, places, odd};
-ghost use Rattle.latex2mathml.specs.Dollars.{mark, nextPlace, isProse};
+ghost use Rattle.latex2mathml.specs.Dollars.{mark, nextPlace, unusual, isProse};
 
 // The place of the first dollar from a place on, or the length.
 fn next_dollar(s: &[u8], from: usize) -> usize
@@ -31,24 +31,34 @@ fn has_dollar(s: &[u8]) -> bool
     found
 }
 
-// Whether all bytes are ASCII and none is a dollar. A flag for each test, so that many bytes are tested at once: one flag that is set in
-// two places would be a branch.
+// Whether a byte is NUL, or not ASCII.
+fn is_unusual(b: u8) -> bool
+    ensures { λ r. ⌜ r ≡ unusual b ⌝ }
+{
+    if b == 0 {
+        return true;
+    }
+    0x7f < b
+}
+
+// Whether no byte is NUL or above 127, and none is a dollar. A flag for each test, so that many bytes are tested at once: one flag that is
+// set in two places would be a branch.
 pub fn is_prose(s: &[u8]) -> bool
     ensures { λ r. ⌜ r ≡ isProse (now (s .entry)) ⌝ }
 {
-    let mut ascii = true;
+    let mut usual = true;
     let mut plain = true;
     let mut i = 0;
     while i < s.len() {
-        if 0x7f < s[i] {
-            ascii = false;
+        if is_unusual(s[i]) {
+            usual = false;
         }
         if s[i] == b'$' {
             plain = false;
         }
         i += 1;
     }
-    if ascii {
+    if usual {
         return plain;
     }
     false

@@ -14,7 +14,7 @@ pub enum Answer {
     Refused(Refusal),
 }
 
-// The number of a refusal in document 01.
+// The number of a refusal.
 pub fn number(r: Refusal) -> u32
     ensures { λ n. ⌜ n ≡ number r ⌝ }
 {
@@ -32,5 +32,6 @@ pub fn number(r: Refusal) -> u32
         Refusal::WorkTooSmall => 11,
         Refusal::OutputTooSmall => 12,
         Refusal::RepeatedMark => 13,
+        Refusal::NulByte => 14,
     }
 }

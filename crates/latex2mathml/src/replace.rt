@@ -10,6 +10,7 @@ use attribute::DisplayStyle;
 use error::Refusal;
 use parse::ParsedNodes;
 use parse::body::parse;
+use text::has_nul;
 use text::put::put;
 use text::well_formed;
 use token::table::Table;
@@ -148,6 +149,9 @@ fn first_pass(
     }
     if !well_formed(document) {
         return Answer::Refused(Refusal::IllFormed);
+    }
+    if has_nul(document) {
+        return Answer::Refused(Refusal::NulByte);
     }
     if first_mark(document, true) == document.len() {
         if room < document.len() {

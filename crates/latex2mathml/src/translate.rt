@@ -7,6 +7,7 @@ use markup::Place;
 use parse::ParsedNodes;
 use parse::body::parse;
 use print::print_nodes;
+use text::has_nul;
 use text::put::put;
 use text::well_formed;
 use token::table::Table;
@@ -65,6 +66,9 @@ pub fn latex_to_mathml(s: &[u8], display: DisplayStyle, store: &mut [u8], out: &
     }
     if !well_formed(s) {
         return Answer::Refused(Refusal::IllFormed);
+    }
+    if has_nul(s) {
+        return Answer::Refused(Refusal::NulByte);
     }
     let commands = table();
     match parse(s, store, 256, &commands) {

@@ -8,8 +8,10 @@ use native.Mathlib.Omega.{arith}
 use lib.Dec.{eqb}
 use borrow.Author.Tests.{eqb-true}
 use Rattle.text.specs.Utf8.{wellFormed}
+use Rattle.text.specs.Nul.{hasNul}
 use Rattle.text.specs.Plain.{plain}
 use Rattle.text.proofs.Cases.{by-test}
+use Rattle.text.proofs.NulLaws.{no-nul-sides}
 use Rattle.text.proofs.SplitLaws.{both-sides}
 use Rattle.latex2mathml.specs.Replace.{dollar}
 use Rattle.latex2mathml.specs.Dollars.{width}
@@ -30,11 +32,15 @@ spanned [] = []
 spanned (text t ∷ l) = t ++ spanned l
 spanned (maths double b ∷ l) = dollars (width double) ++ (b ++ (dollars (width double) ++ spanned l))
 
+-- neither 2 nor 14 refuses the bytes
+abbrev pub Readable : List ℕ → Type 0
+Readable l = (wellFormed l ≡ true) × (hasNul l ≡ false)
+
 -- a formula's body, before what stands behind the formula
 pub record Formula (b behind : List ℕ) : Type 0 where
   pub bare : plain b ≡ true
   pub some : Some b
-  pub well : wellFormed b ≡ true
+  pub readable : Readable b
   pub apart : dollar behind ≡ false
 
 abbrev pub Fine : List Span → Type 0
@@ -53,12 +59,18 @@ no-third (end t) behind h = plain-first t h
 no-third (run t n rest) behind h = some-first t (dollars n ++ typedRuns rest) behind (h .0)
 
 -- a well-formed text may be cut at a run
-run-sides : (n : ℕ) (xs ys : List ℕ) → 1 ≤ n → wellFormed (xs ++ (dollars n ++ ys)) ≡ true → (wellFormed xs ≡ true) × (wellFormed ys ≡ true)
-run-sides zero xs ys some h = absurd (omega arith)
-run-sides (suc zero) xs ys some h = both-sides xs ys 36 (omega arith) h
-run-sides (suc (suc n)) xs ys some h =
+well-sides : (n : ℕ) (xs ys : List ℕ) → 1 ≤ n → wellFormed (xs ++ (dollars n ++ ys)) ≡ true → (wellFormed xs ≡ true) × (wellFormed ys ≡ true)
+well-sides zero xs ys some h = absurd (omega arith)
+well-sides (suc zero) xs ys some h = both-sides xs ys 36 (omega arith) h
+well-sides (suc (suc n)) xs ys some h =
     let k = both-sides xs (dollars (suc n) ++ ys) 36 (omega arith) h in
-    (k .0, run-sides (suc n) [] ys (omega arith) (k .1) .1)
+    (k .0, well-sides (suc n) [] ys (omega arith) (k .1) .1)
+
+run-sides : (n : ℕ) (xs ys : List ℕ) → 1 ≤ n → Readable (xs ++ (dollars n ++ ys)) → Readable xs × Readable ys
+run-sides n xs ys some (well, no-nul) =
+    let w = well-sides n xs ys some well in
+    let k = no-nul-sides xs (dollars n ++ ys) no-nul in
+    ((w .0, k .0), (w .1, no-nul-sides (dollars n) ys (k .1) .1))
 
 -- spans of the same bytes and the same parts
 pub record Spans (rs : Runs) : Type 0 where
@@ -70,24 +82,24 @@ pub record Spans (rs : Runs) : Type 0 where
 module _ (t b : List ℕ) (n m : ℕ) (rest : Runs) where
   -- prose and a formula before spans
   spans-more : (r : Spans rest) → Apart (run t n (run b m rest)) → (double : Bool) → n ≡ width double → n ≡ m
-      → wellFormed b ≡ true → Spans (run t n (run b m rest))
+      → Readable b → Spans (run t n (run b m rest))
   unfolding partsOf
-  spans-more r (bare, _, some, (bare-body, _, behind, more)) double e same well = record {
+  spans-more r (bare, _, some, (bare-body, _, behind, more)) double e same readable = record {
     spans = text t ∷ maths double b ∷ r .spans;
     parts = rw (e, r .parts);
     typed = rw (← same, e, r .typed);
-    fine = (bare, (record { bare = bare-body; some = some; well = well; apart = rw (r .typed) (no-third rest behind more) }, r .fine));
+    fine = (bare, (record { bare = bare-body; some = some; readable = readable; apart = rw (r .typed) (no-third rest behind more) }, r .fine));
   }
 
-pub spans-of : (rs : Runs) → Apart rs → paired (lengths rs) ≡ true → wellFormed (typedRuns rs) ≡ true → Spans rs
+pub spans-of : (rs : Runs) → Apart rs → paired (lengths rs) ≡ true → Readable (typedRuns rs) → Spans rs
 unfolding partsOf lengths paired
-spans-of (end t) h even well = record { spans = text t ∷ []; parts = refl; typed = append-nil t; fine = (h, tt) }
-spans-of (run t n (end u)) h even well = absurd (false≢true even)
-spans-of (run t n (run b m rest)) h even well =
+spans-of (end t) h even readable = record { spans = text t ∷ []; parts = refl; typed = append-nil t; fine = (h, tt) }
+spans-of (run t n (end u)) h even readable = absurd (false≢true even)
+spans-of (run t n (run b m rest)) h even readable =
     let k = and-eq-true-iff ((eqb n 1 || eqb n 2) && eqb n m) (paired (lengths rest)) .0 even in
     let j = and-eq-true-iff (eqb n 1 || eqb n 2) (eqb n m) .0 (k .0) in
     let double = wide n (j .0) in
-    let first = run-sides n t _ (h .1) well .1 in
+    let first = run-sides n t _ (h .1) readable .1 in
     let second = run-sides m b _ (h .3 .1) first in
     let r = spans-of rest (h .3 .3) (k .1) (second .1) in
     spans-more t b n m rest r h (double .0) (double .1) (eqb-true n m (j .1)) (second .0)

@@ -8,7 +8,6 @@ use native.Mathlib.Omega.{arith}
 use lib.Dec.{ltb}
 use lib.ListN.{length}
 use borrow.Author.Tests.{le-ltb}
-use Rattle.text.specs.Utf8.{wellFormed}
 use Rattle.text.proofs.Cases.{never}
 use Rattle.attribute.specs.declared.DisplayStyle.{DisplayStyle}
 use Rattle.error.specs.declared.Refusal.{Refusal}
@@ -25,7 +24,7 @@ use Rattle.page.specs.Demand.{Each, joined, Made}
 use Rattle.page.proofs.DollarRunLaws.{joins, cut-apart}
 use Rattle.page.proofs.MarkLaws.{places-plain, places-body, places-inline}
 use Rattle.page.proofs.PassLaws.{Item, still, body, marked, Finds, Becomes, passed-made}
-use Rattle.page.proofs.SpanLaws.{Span, text, maths, partOf, spanned, Fine, spans-of}
+use Rattle.page.proofs.SpanLaws.{Span, text, maths, partOf, spanned, Readable, Fine, spans-of}
 
 -- ---- bodies
 
@@ -43,12 +42,12 @@ translated store display b m is =
     record { short = first .0; stored = second .is; markup = second .then }
 
 -- a body of a document is a body translated alone, with room for its markup
-pub alone : (store : ℕ) (display : DisplayStyle) (b m : List ℕ) (room : ℕ) → wellFormed b ≡ true → length m ≤ room
+pub alone : (store : ℕ) (display : DisplayStyle) (b m : List ℕ) (room : ℕ) → Readable b → length m ≤ room
     → translateBody store display b ≡ accepted m → translate b display store room ≡ accepted m
 unfolding translate refuse _>>=_
-alone store display b m room well fits is =
+alone store display b m room readable fits is =
     let t = translated store display b m is in
-    rw (translate, t .short, well, t .stored, t .markup, le-ltb room (length m) fits)
+    rw (translate, t .short, readable .0, readable .1, t .stored, t .markup, le-ltb room (length m) fits)
 
 -- ---- the text of a pass
 
@@ -124,9 +123,9 @@ module _ (store : ℕ) where
   shows (s ∷ l) (x ∷ xs) [] h e f = absurd f
   shows (text t ∷ l) (x ∷ xs) (y ∷ ys) (h, more) (e, es) (f, fs) = (f ∙ e, shows l xs ys more es fs)
   shows (maths true b ∷ l) (x ∷ xs) (y ∷ ys) (h, more) (e, es) (f, fs) =
-      (λ room fits. alone store DisplayStyle.Block b y room (h .well) fits (rw f e), shows l xs ys more es fs)
+      (λ room fits. alone store DisplayStyle.Block b y room (h .readable) fits (rw f e), shows l xs ys more es fs)
   shows (maths false b ∷ l) (x ∷ xs) (y ∷ ys) (h, more) (e, es) (f, fs) =
-      (λ room fits. alone store DisplayStyle.Inline b y room (h .well) fits f, shows l xs ys more es fs)
+      (λ room fits. alone store DisplayStyle.Inline b y room (h .readable) fits f, shows l xs ys more es fs)
 
   -- pass two finds those of one dollar, as pass one printed none
   finds-inline : (l : List Span) (xs : List (List ℕ)) → Fine l → Block l xs → Finds false (map (item false) (after l xs))
@@ -162,6 +161,6 @@ unfolding tidy parts
 tidied store work p m even replaced =
     let both = both-accepted p store work m (replaced-is p store work (length m) m (replaced (length m) (omega arith))) in
     let first = first-accepted p store work (both .text) (both .first) in
-    let s = spans-of (dollarRuns p) (cut-apart p) even (rw (joins p) (first .checked .well)) in
+    let s = spans-of (dollarRuns p) (cut-apart p) even (rw (joins p) (first .checked .well, first .checked .noNul)) in
     rw (← s .parts)
     (spans-made store (s .spans) (both .text) m (s .fine) (rw (s .typed, joins p) (first .is)) (second-passed store (both .text) m (both .second)))

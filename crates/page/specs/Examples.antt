@@ -55,3 +55,15 @@ slip : map (λ room. page (bytes "a$$$\n\n$x$") 61440 65536 room) (89 ∷ 88 ∷
     ∷ []
 unfolding page-opens
 slip = refl
+
+-- a paragraph with a NUL stays as typed, in its prose or in a formula, and the others come out as ever
+nul-typed : map (λ s. page (bytes s) 61440 65536 65536) ("\0" ∷ "a\0 $x$\n\n$x$\n\n$\0$" ∷ [])
+    ≡ accepted (record { output = bytes "\0"; paragraphs = 1; left = 1 })
+    ∷ accepted (record {
+      output = bytes "a\0 $x$\n\n<math xmlns=\"http://www.w3.org/1998/Math/MathML\" display=\"inline\"><mi>x</mi></math>\n\n$\0$";
+      paragraphs = 3;
+      left = 2;
+    })
+    ∷ []
+unfolding page-opens
+nul-typed = refl

@@ -10,7 +10,7 @@ use Rattle.latex2mathml.specs.Written.{over}
 use Rattle.page.specs.declared.PageAnswer.{PageAnswer}
 use Rattle.page.specs.Page.{page, outputOf, paragraphsOf, leftOf}
 
--- what an answer says: document 01's number, the length of the output, the number of paragraphs, and of those left as typed
+-- what an answer says: its number, the length of the output, the number of paragraphs, and of those left as typed
 unfoldable pub answerNumber : PageAnswer → ℕ
 answerNumber (PageAnswer.Accepted n paragraphs left) = 0
 answerNumber (PageAnswer.Refused r) = number r

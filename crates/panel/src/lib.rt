@@ -1,4 +1,4 @@
-// The three operations as the panel's host program calls them: numbers and byte slices, and a number of document 01 as the answer.
+// The three operations as the panel's host program calls them: numbers and byte slices, and the number of a refusal, or 0, as the answer.
 use attribute::DisplayStyle;
 use latex2mathml::Answer;
 use latex2mathml::number;

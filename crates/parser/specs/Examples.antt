@@ -54,12 +54,6 @@ digit-behind = refl
 unfoldable pub italic : String → Node
 italic s = leaf (Leaf.Letter (getD (bytes s) 0 0) Variant.Italic)
 
--- a NUL that is an operand is passed, and reading goes on behind it
-nul-operand : read (parse 256 (bytes "x_\0b"))
-    ≡ nodes (two Two.Subscript (italic "x") (leaf (Leaf.Undefined Undefined.EOF)) then italic "b" then empty)
-unfolding text-opens token-opens lexer-opens ast-opens parse-opens read italic
-nul-operand = refl
-
 -- the degree of a root is read before its content
 orders : read (parse 256 (bytes "\\sqrt[a]b")) ≡ nodes (two Two.Root (italic "b") (italic "a") then empty)
 unfolding text-opens token-opens lexer-opens ast-opens parse-opens read italic

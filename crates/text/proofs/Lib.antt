@@ -3,6 +3,7 @@ pub mod Cases
 pub mod EncodeLaws
 pub mod FollowLaws
 pub mod Keys
+pub mod NulLaws
 pub mod PartLaws
 pub mod PlainLaws
 pub mod PutLaws

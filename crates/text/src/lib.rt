@@ -7,6 +7,7 @@ ghost use Prim.Native.Nat.{ℕ, suc, _≤_, _<_};
 ghost use lib.ListN.{length, drop};
 ghost use Rattle.text.specs.Utf8.{table, follow, goesOn, wellFormed, lead, replacement, codePoint};
 ghost use Rattle.text.specs.Follow.{pending, ranges, after, read, isAscii};
+ghost use Rattle.text.specs.Nul.{hasNul};
 
 // A code point and the number of bytes that it takes.
 pub struct CodePoint {
@@ -98,6 +99,21 @@ pub fn well_formed(s: &[u8]) -> bool
         i += 1;
     }
     left == 0
+}
+
+// Whether a byte is NUL. It goes on to the end in any case, so that many bytes are tested at once.
+pub fn has_nul(s: &[u8]) -> bool
+    ensures { λ r. ⌜ r ≡ hasNul (now (s .entry)) ⌝ }
+{
+    let mut found = false;
+    let mut i = 0;
+    while i < s.len() {
+        if s[i] == 0 {
+            found = true;
+        }
+        i += 1;
+    }
+    found
 }
 
 // A byte as a part of a code point.

@@ -48,6 +48,9 @@ enum-told-12 c = search needs
 enum-told-13 : tie.Need-enum-told-13
 enum-told-13 c = search needs
 
+enum-told-14 : tie.Need-enum-told-14
+enum-told-14 c = search needs
+
 returns : tie.Need-returns
 unfolding number
 returns c = sym (ap number ((c .enum-told) .given .1))
@@ -100,6 +103,10 @@ returns-13 : tie.Need-returns-13
 unfolding number
 returns-13 c = sym (ap number ((c .enum-told13) .given .1))
 
+returns-14 : tie.Need-returns-14
+unfolding number
+returns-14 c = sym (ap number ((c .enum-told14) .given .1))
+
 pub number-spec : {M : Type 1} → statement M
 number-spec =
     tie.close
@@ -117,6 +124,7 @@ number-spec =
     enum-told-11
     enum-told-12
     enum-told-13
+    enum-told-14
     returns
     returns-2
     returns-3
@@ -129,4 +137,5 @@ number-spec =
     returns-10
     returns-11
     returns-12
-    returns-13)
+    returns-13
+    returns-14)

@@ -3,7 +3,7 @@
 use mathlib.Core.Path.{refl, sym, _∙_}
 use lib.ListN.{length}
 use borrow.Author.Tests.{not-true, not-false}
-use Rattle.latex2mathml.proofs.TranslateLaws.{too-long, ill-formed, body-no, gives-nothing}
+use Rattle.latex2mathml.proofs.TranslateLaws.{too-long, ill-formed, nul-byte, body-no, gives-nothing}
 use Rattle.latex2mathml.proofs.BodyLaws.{few-nodes, able-count, able-write, too-large, written}
 use borrow.Author.Needs.{needs}
 use native.Mathlib.Omega.{arith}
@@ -13,6 +13,7 @@ use Rattle.latex2mathml.proofs.translate.latex_to_mathml.Reads as reads
 use Rattle.latex2mathml.proofs.translate.latex_to_mathml.Lts as lts
 use Rattle.latex2mathml.proofs.translate.put_math.Reads as put-math-reads
 use Rattle.parse.proofs.body.parse.Reads as parse-reads
+use Rattle.text.proofs.has_nul.Reads as has-nul-reads
 use Rattle.text.proofs.well_formed.Reads as well-formed-reads
 use Rattle.token.proofs.table.table.Reads as table-reads
 
@@ -27,6 +28,14 @@ well-formed-requires c κs = search needs
 returns-2 : tie.Need-returns-2
 returns-2 c =
     let g = gives-nothing ((c .before .before .before .before .before .before .args) .out .now) (ill-formed ((c .before .before .before .before .before .before .args) .s .now) ((c .before .before .before .before .before .before .args) .display) (length ((c .before .before .before .before .before .before .args) .store .now)) (length ((c .before .before .before .before .before .before .args) .out .now)) ((c .before .before .if1) .left) (sym ((c .before .well-formed) .ensures) ∙ not-true _ ((c .if2) .taken))) in
+    (g, refl)
+
+has-nul-requires : tie.Need-has-nul-requires
+has-nul-requires c κs = search needs
+
+returns-3 : tie.Need-returns-3
+returns-3 c =
+    let g = gives-nothing ((c .before .before .before .before .before .before .before .before .args) .out .now) (nul-byte ((c .before .before .before .before .before .before .before .before .args) .s .now) ((c .before .before .before .before .before .before .before .before .args) .display) (length ((c .before .before .before .before .before .before .before .before .args) .store .now)) (length ((c .before .before .before .before .before .before .before .before .args) .out .now)) ((c .before .before .before .before .if1) .left) (sym ((c .before .before .before .well-formed) .ensures) ∙ not-false _ ((c .before .before .if2) .left)) (sym ((c .before .has-nul) .ensures) ∙ (c .if3) .taken)) in
     (g, refl)
 
 table-requires : tie.Need-table-requires
@@ -44,13 +53,13 @@ enum-known-first c = search needs
 cast-n : tie.Need-cast-n
 cast-n c =
     let b = rw ((c .before .first) .given .1) at ((c .before .before .before .before .before .parse) .ensures) in
-    let f = few-nodes (length ((c .before .before .before .before .before .before .before .before .before .before .before .before .before .before .before .args) .store .now)) b ((c .before .before .before .before .before .before .before .before .before .before .before .if1) .left) in
+    let f = few-nodes (length ((c .before .before .before .before .before .before .before .before .before .before .before .before .before .before .before .before .before .args) .store .now)) b ((c .before .before .before .before .before .before .before .before .before .before .before .before .before .if1) .left) in
     omega arith
 
 put-math-requires : tie.Need-put-math-requires
 put-math-requires c κs =
     let b = rw ((c .before .before .before .before .first) .given .1) at ((c .before .before .before .before .before .before .before .before .parse) .ensures) in
-    (able-count (length ((c .before .before .before .before .before .before .before .before .before .before .before .before .before .before .before .before .before .before .args) .store .now)) b ((c .before .before .before .before .before .before .before .before .before .before .before .before .before .before .before .before .before .before .args) .display) ((c .before .before .before .before .before .before .before .before .before .before .before .before .before .before .if1) .left) _, (c .before .before .before .before .before .before .before .before .before .before .before .table) .ensures)
+    (able-count (length ((c .before .before .before .before .before .before .before .before .before .before .before .before .before .before .before .before .before .before .before .before .args) .store .now)) b ((c .before .before .before .before .before .before .before .before .before .before .before .before .before .before .before .before .before .before .before .before .args) .display) ((c .before .before .before .before .before .before .before .before .before .before .before .before .before .before .before .before .if1) .left) _, (c .before .before .before .before .before .before .before .before .before .before .before .table) .ensures)
 
 same-length : tie.Need-same-length
 same-length c = search needs
@@ -58,24 +67,24 @@ same-length c = search needs
 same-length-2 : tie.Need-same-length-2
 same-length-2 c = search needs
 
-returns-3 : tie.Need-returns-3
-returns-3 c =
+returns-4 : tie.Need-returns-4
+returns-4 c =
     let b = rw ((c .before .before .before .before .before .before .before .before .first) .given .1) at ((c .before .before .before .before .before .before .before .before .before .before .before .before .parse) .ensures) in
-    let g = too-large (length ((c .before .before .before .before .before .before .before .before .before .before .before .before .before .before .before .before .before .before .before .before .before .before .args) .store .now)) b ((c .before .before .before .before .before .before .before .before .before .before .before .before .before .before .before .before .before .before .before .before .before .before .args) .display) ((c .before .before .before .before .before .before .before .before .before .before .before .before .before .before .before .before .before .before .if1) .left) ((c .before .before .before .put-math) .ensures) (sym ((c .before .before .before .before .before .before .before .before .before .before .before .before .before .before .before .before .before .well-formed) .ensures) ∙ not-false _ ((c .before .before .before .before .before .before .before .before .before .before .before .before .before .before .before .before .if2) .left)) ((c .if3) .taken) in
+    let g = too-large (length ((c .before .before .before .before .before .before .before .before .before .before .before .before .before .before .before .before .before .before .before .before .before .before .before .before .args) .store .now)) b ((c .before .before .before .before .before .before .before .before .before .before .before .before .before .before .before .before .before .before .before .before .before .before .before .before .args) .display) ((c .before .before .before .before .before .before .before .before .before .before .before .before .before .before .before .before .before .before .before .before .if1) .left) ((c .before .before .before .put-math) .ensures) (sym ((c .before .before .before .before .before .before .before .before .before .before .before .before .before .before .before .before .before .before .before .well-formed) .ensures) ∙ not-false _ ((c .before .before .before .before .before .before .before .before .before .before .before .before .before .before .before .before .before .before .if2) .left)) (sym ((c .before .before .before .before .before .before .before .before .before .before .before .before .before .before .before .before .before .has-nul) .ensures) ∙ (c .before .before .before .before .before .before .before .before .before .before .before .before .before .before .before .before .if3) .left) ((c .if4) .taken) in
     (g, (c .before .before .before .before .before .before .before .before .before .before .before .before .parse) .kept .1 .0)
 
 put-math-requires-2 : tie.Need-put-math-requires-2
 put-math-requires-2 c κs =
     let b = rw ((c .before .before .before .before .before .before .before .before .before .before .before .first) .given .1) at ((c .before .before .before .before .before .before .before .before .before .before .before .before .before .before .before .parse) .ensures) in
-    (able-write (length ((c .before .before .before .before .before .before .before .before .before .before .before .before .before .before .before .before .before .before .before .before .before .before .before .before .before .args) .store .now)) b ((c .before .before .before .before .before .before .before .before .before .before .before .before .before .before .before .before .before .before .before .before .before .before .before .before .before .args) .display) ((c .before .before .before .before .before .before .before .before .before .before .before .before .before .before .before .before .before .before .before .before .before .if1) .left) ((c .before .before .before .before .before .before .put-math) .ensures) ((c .before .before .before .if3) .left), (c .before .before .before .before .before .before .before .before .before .before .before .before .before .before .before .before .before .before .table) .ensures)
+    (able-write (length ((c .before .before .before .before .before .before .before .before .before .before .before .before .before .before .before .before .before .before .before .before .before .before .before .before .before .before .before .args) .store .now)) b ((c .before .before .before .before .before .before .before .before .before .before .before .before .before .before .before .before .before .before .before .before .before .before .before .before .before .before .before .args) .display) ((c .before .before .before .before .before .before .before .before .before .before .before .before .before .before .before .before .before .before .before .before .before .before .before .if1) .left) ((c .before .before .before .before .before .before .put-math) .ensures) ((c .before .before .before .if4) .left), (c .before .before .before .before .before .before .before .before .before .before .before .before .before .before .before .before .before .before .table) .ensures)
 
 same-length-3 : tie.Need-same-length-3
 same-length-3 c = search needs
 
-returns-4 : tie.Need-returns-4
-returns-4 c =
+returns-5 : tie.Need-returns-5
+returns-5 c =
     let b = rw ((c .before .r) .given .1) at ((c .before .before .before .before .before .parse) .ensures) in
-    let g = gives-nothing ((c .before .before .before .before .before .before .before .before .before .before .before .before .before .before .before .args) .out .now) (body-no ((c .before .before .before .before .before .before .before .before .before .before .before .before .before .before .before .args) .s .now) ((c .before .before .before .before .before .before .before .before .before .before .before .before .before .before .before .args) .display) (length ((c .before .before .before .before .before .before .before .before .before .before .before .before .before .before .before .args) .store .now)) (length ((c .before .before .before .before .before .before .before .before .before .before .before .before .before .before .before .args) .out .now)) ((c .before .before .before .before .before .before .before .before .before .before .before .if1) .left) (sym ((c .before .before .before .before .before .before .before .before .before .before .well-formed) .ensures) ∙ not-false _ ((c .before .before .before .before .before .before .before .before .before .if2) .left)) b) in
+    let g = gives-nothing ((c .before .before .before .before .before .before .before .before .before .before .before .before .before .before .before .before .before .args) .out .now) (body-no ((c .before .before .before .before .before .before .before .before .before .before .before .before .before .before .before .before .before .args) .s .now) ((c .before .before .before .before .before .before .before .before .before .before .before .before .before .before .before .before .before .args) .display) (length ((c .before .before .before .before .before .before .before .before .before .before .before .before .before .before .before .before .before .args) .store .now)) (length ((c .before .before .before .before .before .before .before .before .before .before .before .before .before .before .before .before .before .args) .out .now)) ((c .before .before .before .before .before .before .before .before .before .before .before .before .before .if1) .left) (sym ((c .before .before .before .before .before .before .before .before .before .before .before .before .well-formed) .ensures) ∙ not-false _ ((c .before .before .before .before .before .before .before .before .before .before .before .if2) .left)) (sym ((c .before .before .before .before .before .before .before .before .before .before .has-nul) .ensures) ∙ (c .before .before .before .before .before .before .before .before .before .if3) .left) b) in
     (g, (c .before .before .before .before .before .parse) .kept .1 .0)
 
 same-length-4 : tie.Need-same-length-4
@@ -84,10 +93,10 @@ same-length-4 c = search needs
 same-length-5 : tie.Need-same-length-5
 same-length-5 c = search needs
 
-returns-5 : tie.Need-returns-5
-returns-5 c =
+returns-6 : tie.Need-returns-6
+returns-6 c =
     let b = rw ((c .before .before .before .before .before .before .before .before .before .before .before .before .before .before .first) .given .1) at ((c .before .before .before .before .before .before .before .before .before .before .before .before .before .before .before .before .before .before .parse) .ensures) in
-    let g = written (length ((c .before .before .before .before .before .before .before .before .before .before .before .before .before .before .before .before .before .before .before .before .before .before .before .before .before .before .before .before .args) .store .now)) b ((c .before .before .before .before .before .before .before .before .before .before .before .before .before .before .before .before .before .before .before .before .before .before .before .before .before .before .before .before .args) .display) ((c .before .before .before .before .before .before .before .before .before .before .before .before .before .before .before .before .before .before .before .before .before .before .before .before .if1) .left) ((c .before .before .before .before .before .before .before .before .before .put-math) .ensures) (sym ((c .before .before .before .before .before .before .before .before .before .before .before .before .before .before .before .before .before .before .before .before .before .before .before .well-formed) .ensures) ∙ not-false _ ((c .before .before .before .before .before .before .before .before .before .before .before .before .before .before .before .before .before .before .before .before .before .before .if2) .left)) ((c .before .before .before .before .before .before .if3) .left) ((c .before .before .put-math2) .ensures) in
+    let g = written (length ((c .before .before .before .before .before .before .before .before .before .before .before .before .before .before .before .before .before .before .before .before .before .before .before .before .before .before .before .before .before .before .args) .store .now)) b ((c .before .before .before .before .before .before .before .before .before .before .before .before .before .before .before .before .before .before .before .before .before .before .before .before .before .before .before .before .before .before .args) .display) ((c .before .before .before .before .before .before .before .before .before .before .before .before .before .before .before .before .before .before .before .before .before .before .before .before .before .before .if1) .left) ((c .before .before .before .before .before .before .before .before .before .put-math) .ensures) (sym ((c .before .before .before .before .before .before .before .before .before .before .before .before .before .before .before .before .before .before .before .before .before .before .before .before .before .well-formed) .ensures) ∙ not-false _ ((c .before .before .before .before .before .before .before .before .before .before .before .before .before .before .before .before .before .before .before .before .before .before .before .before .if2) .left)) (sym ((c .before .before .before .before .before .before .before .before .before .before .before .before .before .before .before .before .before .before .before .before .before .before .before .has-nul) .ensures) ∙ (c .before .before .before .before .before .before .before .before .before .before .before .before .before .before .before .before .before .before .before .before .before .before .if3) .left) ((c .before .before .before .before .before .before .if4) .left) ((c .before .before .put-math2) .ensures) in
     (g, (c .before .before .before .before .before .before .before .before .before .before .before .before .before .before .before .before .before .before .parse) .kept .1 .0)
 
 pub latex-to-mathml-spec : {M : Type 1} → statement M
@@ -97,6 +106,8 @@ latex-to-mathml-spec =
     returns
     well-formed-requires
     returns-2
+    has-nul-requires
+    returns-3
     table-requires
     parse-requires
     enum-known-r
@@ -105,10 +116,10 @@ latex-to-mathml-spec =
     put-math-requires
     same-length
     same-length-2
-    returns-3
+    returns-4
     put-math-requires-2
     same-length-3
-    returns-4
+    returns-5
     same-length-4
     same-length-5
-    returns-5)
+    returns-6)
