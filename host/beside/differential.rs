@@ -75,6 +75,7 @@ fn fixed_kinds(words: &'static Words) -> Vec<Kind> {
         fixed_kind("short bytes", fixed::short_bytes),
         fixed_kind("short documents", fixed::short_documents),
         fixed_kind("short pages", fixed::short_pages),
+        fixed_kind("line ends", fixed::line_ends),
         fixed_kind("nuls", fixed::nuls),
         fixed_kind("characters", fixed::character),
         fixed_kind("scripts", fixed::scripts),

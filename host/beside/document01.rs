@@ -382,7 +382,7 @@ fn orders() -> Vec<Stored> {
 }
 
 /// A part of a page, as it is cut by hand: a paragraph that the crate replaces, one that stands as typed, or a break.
-enum Part {
+pub enum Part {
     Replaced(&'static str),
     Left(&'static str),
     Break(&'static str),
@@ -390,7 +390,7 @@ enum Part {
 
 use Part::{Break, Left, Replaced};
 
-fn page_of_parts(parts: &[Part]) -> Stored {
+pub fn page_of_parts(parts: &[Part]) -> Stored {
     let mut case = scope(Ask::Page, "");
     for part in parts {
         let (Replaced(text) | Left(text) | Break(text)) = *part;
@@ -417,7 +417,6 @@ fn pages_by_hand() -> Vec<Stored> {
         &[Replaced("a\nb")],
         &[Replaced("a"), Break("\n\n"), Replaced("b")],
         &[Replaced("a"), Break("\n\n\n\n\n"), Replaced("b")],
-        &[Replaced("a\r\n\r\nb")],
         &[Replaced("a\n \nb")],
         &[Replaced("a"), Break("\n\n"), Replaced(" "), Break("\n\n"), Replaced("b")],
         &[Replaced("a"), Break("\n\n"), Replaced("")],
@@ -443,9 +442,12 @@ fn pages_by_hand() -> Vec<Stored> {
     cases
 }
 
-/// A page that is cut by the document's rule; none where a paragraph has an escape that document 01 changes.
+/// A page that is cut by rule, document 02's where it has a CR LF; none where a paragraph has an escape that document 01 changes.
 pub fn page(document: &[u8]) -> Option<Stored> {
     let mut case = scope(Ask::Page, document);
+    if document.windows(2).any(|two| two == b"\r\n") {
+        case.source = Source::Document02;
+    }
     for (turn, piece) in pieces(document).into_iter().enumerate() {
         if turn % 2 == 1 {
             case.output.extend_from_slice(piece);

@@ -1,6 +1,9 @@
 //! Stored cases whose answer is written by hand from document 02; the list marks each of them.
 
-use crate::document01::{block, body, document, inline, refused, scope, undefined, EOF};
+use crate::document01::Part::{self, Break, Left, Replaced};
+use crate::document01::{
+    block, body, document, inline, page_of_parts, refused, scope, undefined, EOF,
+};
 use crate::inputs::nested;
 use crate::stored::{Ask, Source, Stored};
 
@@ -231,6 +234,69 @@ fn nuls() -> Vec<Stored> {
     cases
 }
 
+/// §4: a line end is LF or CR LF, and a break is a maximal run of two or more.
+#[rustfmt::skip]
+fn breaks() -> Vec<Stored> {
+    let pages: &[&[Part]] = &[
+        &[Left("$"), Break("\r\n\r\n"), Left("$")],
+        &[Left("$"), Break("\r\n\n"), Left("$")],
+        &[Left("$"), Break("\n\r\n"), Left("$")],
+        &[Left("$"), Break("\n\r\n\r\n\n\r\n"), Left("$")],
+        &[Left("$\r"), Break("\r\n\n"), Left("$")],
+        &[Left("$\r\r"), Break("\r\n\r\n"), Left("$")],
+        &[Left("$"), Break("\n\n"), Left("\r$")],
+        &[Left("$"), Break("\r\n\r\n"), Left("\r$")],
+        &[Left("$"), Break("\r\n\r\n"), Left("\r\r\n$")],
+        &[Left("$\n\r"), Break("\r\n\r\n"), Left("$")],
+        &[Left("$\r\n "), Break("\r\n\r\n"), Left(" \r\n$")],
+        &[Replaced("$\n\r\r\n$")],
+        &[Replaced("$\r\n\r\r\n$")],
+        &[Replaced("$\r\n \r\n$")],
+        &[Replaced("$\r\n$")],
+        &[Replaced("$\n\r$")],
+        &[Replaced("$\r\n\r$")],
+        &[Replaced("$\r\r$")],
+        &[Replaced("$\r$")],
+        &[Replaced("$\r\r\n$")],
+        &[Left("$a"), Break("\r\n\r\n"), Left("b$")],
+        &[Left("$$a"), Break("\r\n\r\n"), Left("b$$")],
+        &[Replaced("$a\r\nb$")],
+        &[Replaced("")],
+        &[Replaced("\r")],
+        &[Replaced("\r\n")],
+        &[Replaced("\n\r")],
+        &[Replaced(""), Break("\r\n\r\n"), Replaced("")],
+        &[Replaced(""), Break("\n\r\n"), Replaced("\r")],
+        &[Replaced("\r"), Break("\r\n\r\n"), Replaced("")],
+        &[Replaced("a"), Break("\r\n\r\n"), Replaced("b"), Break("\n\n"), Replaced("c"), Break("\r\n\n\r\n"), Replaced("d\r\n")],
+        &[Replaced("Gate 3\r\nlifts $x$."), Break("\r\n\r\n"), Left("One slip: 90$"), Break("\r\n\r\n"), Replaced("$$y$$\r\n")],
+        &[Left("\0"), Break("\r\n\r\n"), Replaced("$x$")],
+        &[Left("$x_a_b$"), Break("\r\n\r\n"), Replaced("$x$")],
+    ];
+    pages.iter().map(|parts| page_of_parts(parts)).collect()
+}
+
+/// §4: what a paragraph takes of the work buffer, and the most breaks that a page may have.
+#[rustfmt::skip]
+fn breaks_and_sizes() -> Vec<Stored> {
+    let ends = "\r\n".repeat(16_384);
+    let page = |text: &str, paragraphs, left| scope(Ask::Page, text).gives(text).counts(paragraphs, left);
+    vec![
+        // The paragraph ends before the CR of its break, and a CR before it is text.
+        page("a\r\n\nb", 2, 0).work(1),
+        page("a\r\n\r\nb", 2, 0).work(1),
+        page("a\r\r\n\nb", 2, 1).work(1),
+        page("a\r\r\n\nb", 2, 0).work(2),
+        page("a\n\n\rb", 2, 1).work(1),
+        page("a\r\nb", 1, 1).work(3),
+        page("a\r\nb", 1, 0).work(4),
+        page(&ends, 2, 0),
+        page(&"$\r\n\n".repeat(8_192), 8_193, 8_192),
+        page(&"x\r\n\r\n".repeat(6_553), 6_554, 0),
+        refused(Ask::Page, ends + "\n", 1),
+    ]
+}
+
 pub fn cases() -> Vec<Stored> {
     let parts = [
         both_scripts(),
@@ -240,6 +306,8 @@ pub fn cases() -> Vec<Stored> {
         depths(),
         scripts_in_order(),
         nuls(),
+        breaks(),
+        breaks_and_sizes(),
     ];
     let cases = parts.into_iter().flatten();
     cases

@@ -1,4 +1,4 @@
-//! The cases that are gone through one by one: characters, commands, sequences of tokens and of scripts, NULs, short documents and pages.
+//! The cases that are gone through one by one: characters, commands, sequences of tokens and of scripts, NULs, short documents, pages and line ends.
 
 use crate::case::{Case, Operation, Rule, Size};
 use crate::words::Words;
@@ -111,6 +111,9 @@ const ENDS: [&str; 6] = ["", "^", "_ {", "'", "}", "\\middle a"];
 /// Marks and bytes of short documents, all sequences of which are tried.
 const DOCUMENT: [&str; 6] = ["$", "$$", "x", "\\", "{", "}"];
 const PAGE: [&str; 5] = ["\n", "\n\n", "$", "x", "{"];
+
+/// Every mix of line ends between bytes and dollars.
+const LINE_ENDS: [&str; 4] = ["\n", "\r", "x", "$"];
 
 /// A NUL and what refuses before or behind it, an ill-formed byte among them.
 const NULS: [&[u8]; 7] = [b"\0", b"x", b"$", b"{", b"\n\n", b"\xff", b"\\"];
@@ -303,4 +306,14 @@ pub fn short_documents(index: u64) -> Option<Case> {
 
 pub fn short_pages(index: u64) -> Option<Case> {
     text(Operation::Page, &PAGE, 7, index)
+}
+
+/// Every sequence of up to nine, with a work buffer of the length that is needed, which is enough, or of 0 to 2 bytes.
+pub fn line_ends(index: u64) -> Option<Case> {
+    let mut case = text(Operation::Page, &LINE_ENDS, 9, index / 4)?;
+    case.rule.work = match index % 4 {
+        3 => Size::Needed(0),
+        length => Size::Fixed(length as usize),
+    };
+    Some(case)
 }

@@ -348,7 +348,12 @@ pub fn documents(random: &mut Random, words: &Words) -> Case {
     case(Operation::Replacement, input, random)
 }
 
-fn page_text(random: &mut Random, words: &Words) -> Vec<u8> {
+/// A break of the usual kinds, or any mix of line ends and lone CRs.
+fn some_break(random: &mut Random) -> String {
+    if random.one_in(3) {
+        let ends = ["\n", "\r\n", "\r"];
+        return (0..random.below(6)).map(|_| random.of(&ends)).collect();
+    }
     let breaks = [
         "\n\n",
         "\n\n",
@@ -356,10 +361,15 @@ fn page_text(random: &mut Random, words: &Words) -> Vec<u8> {
         "\n\n\n\n\n",
         "\n",
         "\r\n\r\n",
+        "\r\n\r\n\r\n",
         "\n \n",
         "\n\n \n\n",
         "",
     ];
+    random.of(&breaks).to_owned()
+}
+
+fn page_text(random: &mut Random, words: &Words) -> Vec<u8> {
     let mut page = Vec::new();
     for _ in 0..random.below(6) {
         let mut paragraph = document_text(random, words);
@@ -367,7 +377,7 @@ fn page_text(random: &mut Random, words: &Words) -> Vec<u8> {
             damage(&mut paragraph, random);
         }
         page.extend(paragraph);
-        page.extend_from_slice(random.of(&breaks).as_bytes());
+        page.extend(some_break(random).into_bytes());
     }
     if random.one_in(2) {
         page.extend(document_text(random, words));
@@ -522,7 +532,17 @@ fn drafted(random: &mut Random) -> Vec<u8> {
 
 fn long_document(random: &mut Random, words: &Words) -> Vec<u8> {
     let wanted = near(32_768, random);
-    let pieces = ["plain prose, é. ", "$x$ \n\n$$y$$", "x\n\n", "$\n\n", "$x$"];
+    let pieces = [
+        "plain prose, é. ",
+        "$x$ \n\n$$y$$",
+        "x\n\n",
+        "$\n\n",
+        "$x$",
+        "x\r\n\r\n",
+        "$\r\n\n",
+        "\r\n",
+        "\r",
+    ];
     match random.below(10) {
         0 | 1 => filled(wanted, || document_text(random, words)),
         2 | 3 => filled(wanted, || page_text(random, words)),

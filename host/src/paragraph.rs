@@ -7,11 +7,11 @@ pub struct Paragraph<'d> {
     pub text: &'d [u8],
     /// the line of its first byte, from 1
     pub first_line: usize,
-    /// the line of its last byte; a line feed belongs to the line that it ends
+    /// the line of its last byte; a line end, LF or CR LF, belongs to the line that it ends
     pub last_line: usize,
 }
 
-/// Cuts a document at its breaks, the maximal runs of two or more line feeds.
+/// Cuts a document at its breaks, the maximal runs of two or more line ends.
 pub fn paragraphs(document: &[u8]) -> Vec<Paragraph<'_>> {
     let mut found = Vec::new();
     let (mut start, mut line) = (0, 1);
@@ -38,13 +38,26 @@ fn breaks(document: &[u8]) -> Vec<(usize, usize)> {
     let mut found = Vec::new();
     let mut at = 0;
     while at < document.len() {
-        let run = document[at..].iter().take_while(|b| **b == b'\n').count();
-        if run >= 2 {
+        let (run, ends) = line_ends(&document[at..]);
+        if ends >= 2 {
             found.push((at, at + run));
         }
         at += run.max(1);
     }
     found
+}
+
+/// How many bytes at the head are line ends, and how many line ends they are; a CR alone is none.
+fn line_ends(text: &[u8]) -> (usize, usize) {
+    let (mut run, mut ends) = (0, 0);
+    loop {
+        run += match text[run..] {
+            [b'\n', ..] => 1,
+            [b'\r', b'\n', ..] => 2,
+            _ => return (run, ends),
+        };
+        ends += 1;
+    }
 }
 
 fn line_feeds(text: &[u8]) -> usize {
@@ -94,7 +107,23 @@ mod tests {
     }
 
     #[test]
-    fn a_carriage_return_between_line_feeds_is_no_part_of_a_break() {
-        assert_eq!(cut("a\r\n\r\nb"), [("a\r\n\r\nb", 1, 3)]);
+    fn a_line_end_is_lf_or_cr_lf() {
+        assert_eq!(cut("a\r\n\r\nb"), [("a", 1, 1), ("b", 3, 3)]);
+        assert_eq!(cut("a\r\n\nb"), [("a", 1, 1), ("b", 3, 3)]);
+        assert_eq!(cut("a\n\r\nb"), [("a", 1, 1), ("b", 3, 3)]);
+        assert_eq!(cut("\r\n\r\n\n"), [("", 1, 1), ("", 4, 4)]);
+        assert_eq!(
+            cut("a\r\nb\r\n\r\nc\r\n"),
+            [("a\r\nb", 1, 2), ("c\r\n", 4, 4)]
+        );
+    }
+
+    #[test]
+    fn a_carriage_return_alone_is_text() {
+        assert_eq!(cut("a\r\rb"), [("a\r\rb", 1, 1)]);
+        assert_eq!(cut("a\r\r\n\nb"), [("a\r", 1, 1), ("b", 3, 3)]);
+        assert_eq!(cut("a\n\r\r\nb"), [("a\n\r\r\nb", 1, 3)]);
+        assert_eq!(cut("a\n\n\rb"), [("a", 1, 1), ("\rb", 3, 3)]);
+        assert_eq!(cut("a\n\r"), [("a\n\r", 1, 2)]);
     }
 }

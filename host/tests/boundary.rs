@@ -514,6 +514,44 @@ fn page_counts() {
     paged(&stray, AMPLE, Ok((&stray, 10_923, 10_922)));
 }
 
+/// Document 02, §4: a line end is LF or CR LF, and a break is a maximal run of two or more.
+#[test]
+fn page_breaks_of_line_ends() {
+    let cases: [(&[u8], u64); 12] = [
+        (b"$\r\n\r\n$", 2),
+        (b"$\r\n\n$", 2),
+        (b"$\n\r\n$", 2),
+        (b"$\r\n\r\n\r\n\n$", 2),
+        (b"$\r\r\n\n$", 2),
+        (b"$\n\n\r$", 2),
+        (b"\r\n\n", 2),
+        (b"$\n\r\r\n$", 1),
+        (b"$\r\r$", 1),
+        (b"$\r\n$", 1),
+        (b"$\n\r$", 1),
+        (b"$\r\n\r$", 1),
+    ];
+    for (document, paragraphs) in cases {
+        // where both dollars stand in one paragraph they enclose a body of blanks
+        let dollars = document.contains(&b'$');
+        let left = if dollars && paragraphs == 2 { 2 } else { 0 };
+        let want = match (dollars, paragraphs) {
+            (true, 1) => inline(""),
+            _ => document.to_vec(),
+        };
+        paged(document, AMPLE, Ok((&want, paragraphs, left)));
+    }
+}
+
+/// Document 02, §4: the CR before the first LF of a break is not the paragraph's, so it takes no place in the work buffer.
+#[test]
+fn page_a_paragraph_ends_before_the_cr_of_its_break() {
+    paged(b"a\r\n\nb", work(1), Ok((b"a\r\n\nb", 2, 0)));
+    paged(b"a\r\r\n\nb", work(1), Ok((b"a\r\r\n\nb", 2, 1)));
+    paged(b"a\r\nb", work(3), Ok((b"a\r\nb", 1, 1)));
+    paged(b"a\r\nb", work(4), Ok((b"a\r\nb", 1, 0)));
+}
+
 #[test]
 fn page_with_nothing_lent() {
     paged(b"", NOTHING, Ok((b"", 1, 0)));

@@ -213,6 +213,26 @@ fn a_mark_repeated_on_one_base() {
     assert_eq!(explain(b"$p_u^2$\n\n$p_u$ and $p_u_2$"), want);
 }
 
+/// Lines are counted by their ends, LF or CR LF, and a CR alone ends none.
+#[test]
+fn a_page_from_an_office_machine() {
+    let page = concat!(
+        "Gate 3\r\nlifts $x$.\r\n\r\n",
+        "One slip: 90$\r\nfor a rope.\r\n\r\n\r\n",
+        "$y$\rand\r$z$\r\n\n",
+        "$\\frac{1\r\n}{2$\r\n",
+    );
+    let want = lines(&[
+        "Paragraph 2, lines 4 to 5, stays as typed.",
+        FOUR,
+        "Paragraph 4, lines 10 to 11, stays as typed.",
+        SIX,
+        "    Formula 1 between single dollars: \\frac{1  }{2",
+        "2 of 4 paragraphs stay as typed.",
+    ]);
+    assert_eq!(explain(page.as_bytes()), want);
+}
+
 /// It is found before any formula is read, so none is named.
 #[test]
 fn a_nul_in_the_text_or_in_a_formula() {

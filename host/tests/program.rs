@@ -51,6 +51,11 @@ fn nothing_is_an_empty_page() {
 
 #[test]
 fn a_stray_dollar_leaves_its_paragraph_alone() {
-    let page = b"a$$$\n\n<math xmlns=\"http://www.w3.org/1998/Math/MathML\" display=\"inline\"><mi>x</mi></math>";
-    assert_eq!(page_main(b"a$$$\n\n$x$"), page);
+    let markup =
+        r#"<math xmlns="http://www.w3.org/1998/Math/MathML" display="inline"><mi>x</mi></math>"#;
+    for lines in ["\n\n", "\r\n\r\n"] {
+        let document = ["a$$$", lines, "$x$"].concat();
+        let page = ["a$$$", lines, markup].concat();
+        assert_eq!(page_main(document.as_bytes()), page.as_bytes());
+    }
 }

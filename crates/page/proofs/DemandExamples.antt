@@ -33,21 +33,21 @@ there p = replacement (bytes p) 61440 65536
 unfoldable letter : String → List ℕ
 letter c = bytes "<math xmlns=\"http://www.w3.org/1998/Math/MathML\" display=\"inline\"><mi>" ++ bytes c ++ bytes "</mi></math>"
 
--- ---- whatever a paragraph holds: the first one is refused in one run and replaced in the other
+-- ---- whatever a paragraph holds: the first one, of a page whose lines end with CR LF, is refused in one run and replaced in the other
 
 abbrev slipped : Run
-slipped = on "$a\n\n$x$"
+slipped = on "$a\r\n\r\n$x$"
 
 abbrev mended : Run
-mended = on "$a$\n\n$x$"
+mended = on "$a$\r\n\r\n$x$"
 
-both-accepted : (slipped .answer ≡ PageAnswer.Accepted 87 2 1) × (mended .answer ≡ PageAnswer.Accepted 168 2 0)
+both-accepted : (slipped .answer ≡ PageAnswer.Accepted 89 2 1) × (mended .answer ≡ PageAnswer.Accepted 170 2 0)
 unfolding page-opens
 both-accepted = (refl, refl)
 
 one-paragraph-differs : DifferInParagraph (slipped .document) (mended .document) (bytes "$a") (bytes "$a$")
 unfolding page-opens
-one-paragraph-differs = record { before = []; behind = break (bytes "\n\n") ∷ paragraph (bytes "$x$") ∷ []; first = refl; second = refl }
+one-paragraph-differs = record { before = []; behind = break (bytes "\r\n\r\n") ∷ paragraph (bytes "$x$") ∷ []; first = refl; second = refl }
 
 refused-and-replaced : (there "$a" ≡ refused Refusal.InvalidNumberOfDollarSigns) × (there "$a$" ≡ accepted (letter "a"))
 unfolding page-opens letter
@@ -55,7 +55,7 @@ refused-and-replaced = (refl, refl)
 
 shares : TwoRuns (slipped .document) (mended .document) 61440 65536 one-paragraph-differs (output slipped) (output mended)
 shares =
-    demand3 .twoRuns slipped mended (87, 2, 1, both-accepted .0) (168, 2, 0, both-accepted .1) (record { store = refl; work = refl; room = refl })
+    demand3 .twoRuns slipped mended (89, 2, 1, both-accepted .0) (170, 2, 0, both-accepted .1) (record { store = refl; work = refl; room = refl })
     one-paragraph-differs
 
 -- ---- one formula's body: the second formula of the last paragraph

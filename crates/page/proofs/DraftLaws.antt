@@ -13,7 +13,7 @@ use Rattle.text.proofs.PartLaws.{part-length}
 use Rattle.latex2mathml.specs.Dollars.{nextPlace}
 use Rattle.latex2mathml.specs.Laid.{Laid, growth}
 use Rattle.page.specs.Pieces.{piece, pieces}
-use Rattle.page.specs.Breaks.{twoLineFeeds, noLineFeed}
+use Rattle.page.specs.Breaks.{twoLineEnds, noLineEnd}
 use Rattle.page.specs.Page.{shown, left, shownAll, paragraphs, leftAll}
 use Rattle.page.specs.Marks.{marks, Drafted, Totalled}
 use Rattle.page.proofs.PieceLaws.{pieces-last, pieces-more}
@@ -53,7 +53,7 @@ regrouped : (a b c l : List ℕ) → a ++ (b ++ c ++ l) ≡ a ++ b ++ c ++ l
 regrouped a b c l = simp append-assoc
 
 module _ {s : List ℕ} {store work from at k refused : ℕ} {d d′ m m′ : List ℕ} (h : Drafting s store work from at k refused d m) (e n : ℕ)
-    (first : e ≡ nextPlace twoLineFeeds from (drop from s)) (room : k < length m) (p : Drafted (part from e s) store work d d′ at m m′ k n) where
+    (first : e ≡ nextPlace twoLineEnds from (drop from s)) (room : k < length m) (p : Drafted (part from e s) store work d d′ at m m′ k n) where
   -- the mark of the paragraph that is drafted next stands behind those before it
   mark-is : getD m′ k 0 ≡ left store work (part from e s)
   mark-is = rw (p .mark) (getD-set-same m k (left store work (part from e s)) 0 room)
@@ -88,7 +88,7 @@ module _ {s : List ℕ} {store work from at k refused : ℕ} {d d′ m m′ : Li
         marked = rw counted (marks-are ∙ sym (h .marked ∙ rw are));
       }
 
-  module _ (b : ℕ) (behind : from ≤ e) (more : e < length s) (end : b ≡ nextPlace noLineFeed e (drop e s)) (inside : b ≤ length s) where
+  module _ (b : ℕ) (behind : from ≤ e) (more : e < length s) (end : b ≡ nextPlace noLineEnd e (drop e s)) (inside : b ≤ length s) where
     are : (e + 2 ≤ b) × (pieces (drop from s) ≡ piece (part from e s) (part e b s) (pieces (drop b s)))
     are = pieces-more s from e (h .inside) first more b end
 

@@ -1,3 +1,4 @@
+pub mod LineEndLaws
 pub mod BreakLaws
 pub mod CutLaws
 pub mod PieceLaws

@@ -19,7 +19,7 @@ use Rattle.latex2mathml.specs.Written.{over}
 use Rattle.latex2mathml.proofs.ProseLaws.{prose-typed}
 use Rattle.page.specs.declared.PageAnswer.{PageAnswer}
 use Rattle.page.specs.Pieces.{Pieces, last, piece, pieces}
-use Rattle.page.specs.Breaks.{twoLineFeeds, noLineFeed}
+use Rattle.page.specs.Breaks.{twoLineEnds, noLineEnd}
 use Rattle.page.specs.Cut.{typedAll}
 use Rattle.page.specs.Page.{shownAll, paragraphs, leftAll, page, outputOf, paragraphsOf, leftOf}
 use Rattle.page.specs.Run.{answerNumber, answerLength, answerParagraphs, answerLeft, Pages}
@@ -99,12 +99,12 @@ pub record Counting (s : List ℕ) (from k : ℕ) : Type 0 where
   pub few : 2 * k ≤ from
   pub counted : paragraphs (pieces s) ≡ k + paragraphs (pieces (drop from s))
 
-module _ {s : List ℕ} {from k : ℕ} (h : Counting s from k) (e : ℕ) (first : e ≡ nextPlace twoLineFeeds from (drop from s)) where
+module _ {s : List ℕ} {from k : ℕ} (h : Counting s from k) (e : ℕ) (first : e ≡ nextPlace twoLineEnds from (drop from s)) where
   pub counting-last : e ≡ length s → k + 1 ≡ paragraphs (pieces s)
   unfolding paragraphs
   counting-last end = sym (h .counted ∙ rw (pieces-last s from e (h .inside) first end))
 
-  pub counting-more : (b : ℕ) → from ≤ e → e < length s → b ≡ nextPlace noLineFeed e (drop e s) → b ≤ length s → Counting s b (k + 1) × (from < b)
+  pub counting-more : (b : ℕ) → from ≤ e → e < length s → b ≡ nextPlace noLineEnd e (drop e s) → b ≤ length s → Counting s b (k + 1) × (from < b)
   unfolding paragraphs
   counting-more b behind more end inside =
       let are = pieces-more s from e (h .inside) first more b end in

@@ -14,7 +14,7 @@ use Rattle.text.proofs.PutLaws.{Putting, putting-none, putting-room, putting-mo
 use Rattle.text.proofs.Cases.{by-order}
 use Rattle.latex2mathml.specs.Dollars.{nextPlace}
 use Rattle.page.specs.Pieces.{Pieces, last, piece, pieces}
-use Rattle.page.specs.Breaks.{twoLineFeeds, noLineFeed}
+use Rattle.page.specs.Breaks.{twoLineEnds, noLineEnd}
 use Rattle.page.specs.Page.{shown, left, shownAll, paragraphs}
 use Rattle.page.specs.Marks.{marks, Marked}
 use Rattle.page.proofs.PieceLaws.{pieces-last, pieces-more}
@@ -63,11 +63,11 @@ begins-piece p break rest store work = record {
 }
 
 module _ {s m : List ℕ} {store work : ℕ} {o₀ o : List ℕ} {from at k : ℕ} (room : Room true o₀ 0 (length (shownAll store work (pieces s))))
-    (h : Writing s m store work o₀ o from at k) (e : ℕ) (first : e ≡ nextPlace twoLineFeeds from (drop from s)) (within : e ≤ length s) where
+    (h : Writing s m store work o₀ o from at k) (e : ℕ) (first : e ≡ nextPlace twoLineEnds from (drop from s)) (within : e ≤ length s) where
   begins : Begins (pieces (drop from s)) store work (part from e s)
   begins =
       by-order e (length s)
-      (λ more. rw (pieces-more s from e (h .inside) first more (nextPlace noLineFeed e (drop e s)) refl .1) (begins-piece _ _ _ store work))
+      (λ more. rw (pieces-more s from e (h .inside) first more (nextPlace noLineEnd e (drop e s)) refl .1) (begins-piece _ _ _ store work))
       (λ end. rw (pieces-last s from e (h .inside) first (omega arith)) (begins-last _ store work))
 
   -- the mark of the next paragraph, and the room for it
@@ -88,7 +88,7 @@ module _ {s m : List ℕ} {store work : ℕ} {o₀ o : List ℕ} {from at k : �
       putting-all (putting-more (shown store work (part from e s)) [] room (rw (pieces-last s from e (h .inside) first end, ← append-nil (shown store work (part from e s))) at (h .putting)) puts)
 
   module _ {o₁ : List ℕ} {at₁ : ℕ} (puts : Puts true o o₁ at (shown store work (part from e s)) at₁) (b : ℕ) (more : e < length s)
-      (end : b ≡ nextPlace noLineFeed e (drop e s)) where
+      (end : b ≡ nextPlace noLineEnd e (drop e s)) where
     are : pieces (drop from s) ≡ piece (part from e s) (part e b s) (pieces (drop b s))
     are = pieces-more s from e (h .inside) first more b end .1
 

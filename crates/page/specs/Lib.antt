@@ -1,5 +1,5 @@
-pub mod Pieces
 pub mod Breaks
+pub mod Pieces
 pub mod Cut
 pub mod Page
 pub mod Run

@@ -1,34 +1,91 @@
 // The breaks of a document: where the next one begins, where it ends, and how many paragraphs there are between them.
-use latex2mathml::search::next_pair;
+use latex2mathml::search::next_byte;
 ghost use mathlib.Core.Path.{_≡_};
-ghost use Prim.Native.Nat.{_≤_};
+ghost use Prim.Native.Nat.{_+_, _≤_};
 ghost use lib.ListN.{length, drop};
 ghost use Rattle.latex2mathml.specs.Dollars.{nextPlace};
-ghost use Rattle.page.specs.Breaks.{twoLineFeeds, noLineFeed};
+ghost use Rattle.page.specs.Breaks.{lineEnd, inLineEnd, twoLineEnds, noLineEnd};
 ghost use Rattle.page.specs.Pieces.{pieces};
 ghost use Rattle.page.specs.Page.{paragraphs};
 
-// The place of the first two line feeds from a place on, or the length.
-pub fn next_break(s: &[u8], from: usize) -> usize
-    requires { ⌜ from ≤ length (now s) ⌝ }
-    ensures { λ r. ⌜ (r ≡ nextPlace twoLineFeeds from (drop from (now (s .entry)))) × (from ≤ r) × (r ≤ length (now (s .entry))) ⌝ }
+// How many bytes the line end at a place has: 1 for LF, 2 for CR LF, 0 where none stands there, as at a CR alone.
+fn line_end(s: &[u8], i: usize) -> usize
+    requires { ⌜ i ≤ length (now s) ⌝ }
+    ensures { λ r. ⌜ (r ≡ lineEnd (drop i (now (s .entry)))) × (i + r ≤ length (now (s .entry))) ⌝ }
 {
-    next_pair(s, from, b'\n')
+    if s.len() <= i {
+        return 0;
+    }
+    if s[i] == b'\n' {
+        return 1;
+    }
+    if s[i] != b'\r' {
+        return 0;
+    }
+    if s.len() - i < 2 {
+        return 0;
+    }
+    match s[i + 1] {
+        b'\n' => 2,
+        _ => 0,
+    }
 }
 
-// The first place from a place on where no line feed stands, or the length.
-pub fn break_end(s: &[u8], from: usize) -> usize
-    requires { ⌜ from ≤ length (now s) ⌝ }
-    ensures { λ r. ⌜ (r ≡ nextPlace noLineFeed from (drop from (now (s .entry)))) × (from ≤ r) × (r ≤ length (now (s .entry))) ⌝ }
+// Whether two line ends stand at a place.
+fn two_line_ends(s: &[u8], i: usize) -> bool
+    requires { ⌜ i ≤ length (now s) ⌝ }
+    ensures { λ r. ⌜ r ≡ twoLineEnds (drop i (now (s .entry))) ⌝ }
 {
-    let mut i = from;
+    let first = line_end(s, i);
+    if first == 0 {
+        return false;
+    }
+    line_end(s, i + first) != 0
+}
+
+// The place of the first line end from a place on, or the length: it begins at the first line feed or at a CR before that.
+fn next_line_end(s: &[u8], from: usize) -> usize
+    requires { ⌜ from ≤ length (now s) ⌝ }
+    ensures { λ r. ⌜ (r ≡ nextPlace inLineEnd from (drop from (now (s .entry)))) × (from ≤ r) × (r ≤ length (now (s .entry))) ⌝ }
+{
+    let feed = next_byte(s, from, b'\n');
+    if feed == from {
+        return feed;
+    }
+    if line_end(s, feed - 1) == 0 {
+        return feed;
+    }
+    feed - 1
+}
+
+// The place of the first two line ends from a place on, or the length.
+pub fn next_break(s: &[u8], from: usize) -> usize
+    requires { ⌜ from ≤ length (now s) ⌝ }
+    ensures { λ r. ⌜ (r ≡ nextPlace twoLineEnds from (drop from (now (s .entry)))) × (from ≤ r) × (r ≤ length (now (s .entry))) ⌝ }
+{
+    let mut i = next_line_end(s, from);
     while i < s.len() {
-        if s[i] != b'\n' {
+        if two_line_ends(s, i) {
             return i;
         }
-        i += 1;
+        i = next_line_end(s, i + 1);
     }
     i
+}
+
+// The first place from a place on where no line end stands, or the length.
+pub fn break_end(s: &[u8], from: usize) -> usize
+    requires { ⌜ from ≤ length (now s) ⌝ }
+    ensures { λ r. ⌜ (r ≡ nextPlace noLineEnd from (drop from (now (s .entry)))) × (from ≤ r) × (r ≤ length (now (s .entry))) ⌝ }
+{
+    let mut i = from;
+    loop {
+        let w = line_end(s, i);
+        if w == 0 {
+            return i;
+        }
+        i += w;
+    }
 }
 
 // The number of paragraphs.

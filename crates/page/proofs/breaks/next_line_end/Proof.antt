@@ -1,0 +1,47 @@
+-- `page::breaks::next_line_end` meets its contract.
+-- Assumes nothing.
+use mathlib.Core.Path.{sym, _∙_}
+use Rattle.page.proofs.BreakLaws.{at-feed, before-feed, not-before}
+use borrow.Author.Needs.{needs}
+use native.Mathlib.Omega.{arith}
+use Rattle.page.proofs.breaks.next_line_end.Statement.{statement}
+use Rattle.page.proofs.breaks.next_line_end.Tie as tie
+
+next-byte-requires : tie.Need-next-byte-requires
+next-byte-requires c κs = search needs
+
+returns : tie.Need-returns
+returns c =
+    let a = (c .before .before .before .args) in
+    let feed = (c .before .next-byte) .ensures in
+    (sym (at-feed (a .s .now) (a .from) _ (c .before .before .before .pre) (feed .0) (c .if1 .taken)), feed .1, feed .2)
+
+sub-line-end : tie.Need-sub-line-end
+sub-line-end c = search needs
+
+line-end-requires : tie.Need-line-end-requires
+line-end-requires c κs = search needs
+
+returns-2 : tie.Need-returns-2
+returns-2 c =
+    let a = (c .before .before .before .before .before .args) in
+    let feed = (c .before .before .before .next-byte) .ensures in
+    let other = (c .before .before .if1 .left) in
+    let none = sym ((c .before .line-end) .ensures .0) ∙ (c .if2 .taken) in
+    (sym (not-before (a .s .now) (a .from) _ (c .before .before .before .before .before .pre) (feed .0) (omega arith) none), feed .1, feed .2)
+
+sub-result : tie.Need-sub-result
+sub-result c = search needs
+
+returns-3 : tie.Need-returns-3
+returns-3 c =
+    let a = (c .before .before .before .before .before .args) in
+    let feed = (c .before .before .before .next-byte) .ensures in
+    let other = (c .before .before .if1 .left) in
+    let width = (c .before .line-end) .ensures .0 in
+    (sym (before-feed (a .s .now) (a .from) _ (c .before .before .before .before .before .pre) (feed .0) (omega arith) (λ e. (c .if2 .left) (width ∙ e))), omega arith, omega arith)
+
+pub next-line-end-spec : {M : Type 1} → statement M
+next-line-end-spec =
+    tie.close
+    (tie.spec next-byte-requires returns sub-line-end line-end-requires returns-2 sub-result returns-3)
