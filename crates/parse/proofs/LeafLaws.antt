@@ -1,9 +1,9 @@
 -- Tokens that are a leaf by themselves.
 -- Assumes nothing.
-use mathlib.Core.Path.{_≡_, refl, sym, _∙_}
+use mathlib.Core.Path.{_≡_, refl, sym, _∙_, ap}
 use mathlib.Core.Bool.{Bool, true, false, not, _&&_, _||_, false≢true}
 use mathlib.Core.List.{List, [], _∷_}
-use Prim.Native.Nat.{ℕ, _-_, _^_, _≤_, _<_}
+use Prim.Native.Nat.{ℕ, _+_, _-_, _^_, _≤_, _<_}
 use native.Mathlib.Omega.{arith}
 use types.Run.{OneOf}
 use denote.Enum.Declared.{tagOf}
@@ -13,13 +13,14 @@ use Rattle.token.specs.declared.Token.the-variants.{EOF, Begin, End, Ampersand,
 use Rattle.token.specs.declared.Mark.{Mark}
 use Rattle.token.proofs.Token.{the-type}
 use Rattle.ast.specs.Shape.{Placed}
-use Rattle.ast.specs.Tree.{leaf}
+use Rattle.ast.specs.Tree.{Node, leaf, two}
 use Rattle.parser.specs.declared.Parser.{Parser}
-use Rattle.parser.specs.State.{peekIs}
-use Rattle.parser.specs.Parse.{Reads, _>>=_, build, parseBare, nodeStep, parseNode, parseSingleNode}
+use Rattle.parser.specs.declared.Script.{Script}
+use Rattle.parser.specs.State.{next, peekIs}
+use Rattle.parser.specs.Parse.{made, Reads, build, parseBare, parseScripts, parseNode, parseSingleNode}
 use Rattle.parser.specs.Sound.{TokenInside}
-use Rattle.parser.specs.Marks.{leafOf, isDefined, isPutOn, standsAlone, scriptOf}
-use Rattle.parse.proofs.WayLaws.{node-more, node-is, scripts-none, single-more, bare-is, prime-none}
+use Rattle.parser.specs.Marks.{scriptOf, scriptKind, leafOf, isDefined, isPutOn, standsAlone}
+use Rattle.parse.proofs.WayLaws.{node-more, node-is, scripts-none, scripts-is, second-none, single-more, bare-is, prime-none}
 
 -- the places, among the enum's variants, of the tokens that have no operand
 abbrev pub single-tokens : List ℕ
@@ -95,16 +96,40 @@ unmarked : (p : Parser) → isPutOn (p .peek .token) ≡ false → (peekIs p Mar
 unfolding isPutOn
 unmarked p e = none-of (peekIs p Mark.Prime) (peekIs p Mark.Underscore) (peekIs p Mark.Circumflex) e
 
--- a token that stands alone is its leaf
-pub alone-is : (d : ℕ) (s : List ℕ) (p : Parser) → 2 ≤ d → standsAlone (p .cur .token) (p .peek .token) ≡ true → parseNode d s p ≡ build 1 (leaf (leafOf (p .cur .token))) p
-unfolding standsAlone nodeStep _>>=_ build scriptOf
-alone-is d s p le e =
+-- a token that stands alone is its leaf, as a single node and with its scripts
+alone-single : (d : ℕ) (s : List ℕ) (p : Parser) → 1 ≤ d → standsAlone (p .cur .token) (p .peek .token) ≡ true → parseSingleNode d s p ≡ build 1 (leaf (leafOf (p .cur .token))) p
+unfolding standsAlone build
+alone-single d s p le e =
     let h = first-only (isDefined (leafOf (p .cur .token))) (isPutOn (p .peek .token)) e in
     let m = unmarked p (h .1) in
-    let bare = bare-is (λ q. parseNode (d - 1 - 1) s q) (λ q. parseSingleNode (d - 1 - 1) s q) s p (bare-defined _ _ s (p .cur .token) p (h .0)) in
-    let single = single-more (d - 1) s p (λ z. omega arith) ∙ bare ∙ prime-none s _ _ (m .0) in
+    let bare = bare-is (λ q. parseNode (d - 1) s q) (λ q. parseSingleNode (d - 1) s q) s p (bare-defined _ _ s (p .cur .token) p (h .0)) in
+    single-more d s p (λ z. omega arith) ∙ bare ∙ prime-none s _ _ (m .0)
+
+-- .. and no mark of a script is behind it
+alone-marks : (p : Parser) → standsAlone (p .cur .token) (p .peek .token) ≡ true → scriptOf (p .peek .token) ≡ Script.Neither
+unfolding standsAlone scriptOf
+alone-marks p e =
+    let h = first-only (isDefined (leafOf (p .cur .token))) (isPutOn (p .peek .token)) e in
+    let m = unmarked p (h .1) in
+    rw (scriptOf, m .1, m .2)
+
+pub alone-is : (d : ℕ) (s : List ℕ) (p : Parser) → 2 ≤ d → standsAlone (p .cur .token) (p .peek .token) ≡ true → parseNode d s p ≡ build 1 (leaf (leafOf (p .cur .token))) p
+unfolding build
+alone-is d s p le e =
     let all : Reads = λ q. parseSingleNode (d - 1) s q in
-    node-more d s p le ∙ node-is all s p single ∙ scripts-none all s _ (rw (scriptOf, m .1, m .2)) _
+    node-more d s p le ∙ node-is all s p (alone-single (d - 1) s p (omega arith) e) ∙ scripts-none all s _ (alone-marks p e) _
+
+-- as the operand of a script it is the only one
+pub alone-script : (d : ℕ) (s : List ℕ) (p : Parser) {b c : Parser} (over : Bool) → b ≡ next s p → c ≡ next s b → scriptOf (p .peek .token) ≡ Script.Operand over → 1 ≤ d
+    → standsAlone (c .cur .token) (c .peek .token) ≡ true → (n : Node)
+    → parseScripts (λ q. parseSingleNode d s q) s (scriptOf (p .peek .token)) n p ≡ build 2 (two (scriptKind over) n (leaf (leafOf (c .cur .token)))) c
+unfolding build
+alone-script d s p {b} {c} over e g f le h n =
+    let all : Reads = λ q. parseSingleNode d s q in
+    let both : c .made + 1 + 1 ≡ c .made + 2 = omega arith in
+    scripts-is all s p e g over f (alone-single d s c le h) n
+    ∙ second-none all s _ over (alone-marks c h) n _
+    ∙ ap (λ m. made (two (scriptKind over) n (leaf (leafOf (c .cur .token)))) (record { cur = c .cur; peek = c .peek; made = m })) both
 
 -- the places that such a leaf carries fit four bytes
 pub leaf-placed : (n : ℕ) (t : Token) → n < 2 ^ 32 → TokenInside n t → Placed (leafOf t)

@@ -31,6 +31,7 @@ use Rattle.parser.specs.Environment.{environment}
 use Rattle.parser.specs.Parse.{Parsed, made, refused, Reads, _>>=_, build, groupUpTo, grouped, parseGroup, parseSqrt, ofPair, parseTwo, parseOne, parseBrace, operator, withBelow, withAbove, withBoth, parseLimits, parseLim, parseSlashed, parseStyle, withFence, fenced, parseLeft, stretch, stretched, parseMiddle, sized, parseBig, opened, inEnvironment, parseBegin, parseTextLeaf, parseBare, primed, singleStep, subSup, bothScripts, parseSecond, parseScripts, nodeStep, parseNode, parseSingleNode}
 use Rattle.parser.specs.Marks.{fence, scriptOf, scriptKind, repeats, otherLimit}
 use Rattle.parser.specs.Built.{withLimit, withLimits}
+use Rattle.parser.proofs.MarkLaws.{no-script}
 
 module _ (node : Reads) (s : List ℕ) (p : Parser) {b : Parser} (e : b ≡ next s p) where
   -- one operand
@@ -184,17 +185,6 @@ pub text-is : (s : List ℕ) (kind : ℕ → ℕ → Leaf) (p : Parser) {b : Par
     → parseTextLeaf s kind p ≡ build 1 (leaf (kind (t .a) (t .e))) (t .after)
 unfolding parseTextLeaf
 text-is s kind p e f = rw (parseTextLeaf, ← e, ← f)
-
--- the token behind a node is no mark of a script, or which
-no-script : (t : Token) → scriptOf t ≡ Script.Neither → (tokenIs t Mark.Underscore ≡ false) × (tokenIs t Mark.Circumflex ≡ false)
-unfolding scriptOf
-no-script t e =
-    by-test (tokenIs t Mark.Underscore)
-    (λ x. let f = rw (scriptOf, x) at e in never cc)
-    (λ x.
-    by-test (tokenIs t Mark.Circumflex)
-    (λ y. let f = rw (scriptOf, x, y) at e in never cc)
-    (λ y. (x, y)))
 
 -- the mark of a script below or above
 abbrev scriptMark : Bool → Mark

@@ -32,6 +32,7 @@ use parser::make::make_scripts;
 use parser::make::make_stretched;
 use parser::make::make_two;
 use parser::marks::fence_of;
+use parser::marks::is_usual_operand;
 use parser::marks::leaf_of;
 use parser::marks::other_limit;
 use parser::marks::repeats;
@@ -79,7 +80,7 @@ fn parse_node(s: &[u8], store: &mut [u8], p: Parser, depth: usize, table: &Table
     }
 }
 
-// A base with the scripts behind it, of which each operand is one single node.
+// A base with the scripts behind it, of which each operand is one single node. The usual operand is made a leaf at once: no second script follows it.
 fn scripts(
     s: &[u8],
     store: &mut [u8],
@@ -88,7 +89,7 @@ fn scripts(
     base: usize,
     table: &Table,
 ) -> ParsedNode
-    requires { ⌜ Ends (now table) (now s) (now store) p 0 × (base < p .made) ⌝ }
+    requires { ⌜ Ends (now table) (now s) (now store) p 0 × (base < p .made) × (1 ≤ depth) ⌝ }
     ensures { λ r. ⌜ BuildsOne (now (store .entry)) (now (store .exit)) p base (λ n. parseScripts (λ q. parseSingleNode depth (now (s .entry)) q) (now (s .entry)) (scriptOf (p .peek .token)) n p) r ⌝ }
 {
     let peek = p.peek;
@@ -98,6 +99,13 @@ fn scripts(
         Script::Operand(over) => {
             let mark = p.next_token(s, table);
             let begin = mark.next_token(s, table);
+            let cur = begin.cur;
+            let first = cur.token;
+            let next = begin.peek;
+            let behind = next.token;
+            if is_usual_operand(first, behind) {
+                return make_leaf_second(store, begin, script_kind(over), base, leaf_of(first));
+            }
             match parse_single_node(s, store, begin, depth, table) {
                 ParsedNode::Refused(r) => ParsedNode::Refused(r),
                 ParsedNode::Node(x, q) => second(s, store, q, depth, over, base, x, table),

@@ -7,7 +7,7 @@ use mathlib.Core.Option.{Option, none, some}
 use Prim.Native.Nat.{ℕ, zero, suc}
 use types.Run.{OneOf}
 use denote.Enum.Declared.{tagOf}
-use Rattle.text.proofs.Cases.{never}
+use Rattle.text.proofs.Cases.{never, by-test}
 use Rattle.text.proofs.Keys.{among, at-key}
 use Rattle.token.specs.declared.Token.{Token}
 use Rattle.token.specs.declared.Token.the-variants.{EOF, Begin, End, Ampersand, NewLine, Left, Right, Middle, Paren, LBrace, RBrace, Frac, Underscore, Circumflex, Binom, Overset, Underset, Overbrace, Underbrace, Sqrt, Integral, Lim, Space, Style, Big, Over, Under, Operator, BigOp, Letter, Number, Function, OperatorName, Slashed, Text, Command}
@@ -18,7 +18,8 @@ use Rattle.token.specs.Roles.{markOf, parenOf, tokenIs, fenceOf}
 use Rattle.token.proofs.Token.{the-type}
 use Rattle.ast.specs.declared.Leaf.{Leaf}
 use Rattle.parser.specs.declared.Fence.{Fence}
-use Rattle.parser.specs.Marks.{fence, leafOf, isDefined}
+use Rattle.parser.specs.declared.Script.{Script}
+use Rattle.parser.specs.Marks.{fence, scriptOf, leafOf, isDefined, isPutOn, standsAlone}
 
 -- the places, among the enum's variants, of the tokens that have an arm of their own: in mark_of, in paren_of, in leaf_of and in is_plain
 abbrev pub marked : List ℕ
@@ -130,3 +131,21 @@ pub fence-period : (t : Token) → fence (parenOf t) ≡ Fence.Missing
     → fence (fenceOf t) ≡ elim (tokenIs t Mark.Period) [ true ↦ Fence.Fixed 0 | false ↦ Fence.Missing ]
 unfolding fenceOf
 fence-period t e = ap fence (second-fence (parenOf t) _ e) ∙ shown (tokenIs t Mark.Period)
+
+-- a token is no mark of a script
+pub no-script : (t : Token) → scriptOf t ≡ Script.Neither → (tokenIs t Mark.Underscore ≡ false) × (tokenIs t Mark.Circumflex ≡ false)
+unfolding scriptOf
+no-script t e =
+    by-test (tokenIs t Mark.Underscore)
+    (λ x. let f = rw (scriptOf, x) at e in never cc)
+    (λ x.
+    by-test (tokenIs t Mark.Circumflex)
+    (λ y. let f = rw (scriptOf, x, y) at e in never cc)
+    (λ y. (x, y)))
+
+-- a leaf stands alone where neither a prime nor the mark of a script is behind it
+pub leaf-alone : (t behind : Token) → isDefined (leafOf t) ≡ true → tokenIs behind Mark.Prime ≡ false → scriptOf behind ≡ Script.Neither → standsAlone t behind ≡ true
+unfolding standsAlone isPutOn
+leaf-alone t behind h e f =
+    let g = no-script behind f in
+    rw (standsAlone, h, isPutOn, e, g .0, g .1)

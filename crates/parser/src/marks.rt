@@ -7,6 +7,7 @@ use token::Mark;
 use token::Token;
 use token::Undefined;
 ghost use mathlib.Core.Path.{_≡_};
+ghost use mathlib.Core.Bool.{true};
 ghost use Rattle.token.specs.Roles.{markNumber, parenMark, operatorMark, markOf, tokenIs, parenOf, fenceOf};
 ghost use Rattle.parser.specs.Marks.{fence, scriptOf, scriptKind, repeats, otherLimit, leafOf, isDefined, isPutOn, standsAlone};
 
@@ -204,4 +205,21 @@ pub fn stands_alone(t: Token, behind: Token) -> bool
         return !is_put_on(behind);
     }
     false
+}
+
+// Whether a token is a letter or a number with nothing put on it, as the operand of a script mostly is; then it stands alone.
+pub fn is_usual_operand(t: Token, behind: Token) -> bool
+    ensures { λ r. ⌜ (r ≡ true → standsAlone t behind ≡ true) ⌝ }
+{
+    if token_is(behind, Mark::Prime) {
+        return false;
+    }
+    match script_of(behind) {
+        Script::Operand(_) => false,
+        Script::Neither => match t {
+            Token::Letter(_, _) => true,
+            Token::Number(_, _) => true,
+            _ => false,
+        },
+    }
 }

@@ -15,8 +15,8 @@ use Rattle.parser.specs.Marks.{scriptOf, otherLimit}
 use Rattle.parser.proofs.BodyLaws.{node-keeps, single-keeps}
 use Rattle.parser.proofs.MoveLaws.{text-sound}
 use Rattle.parse.proofs.RoomLaws.{may-next, starts-ready, ready-starts, ready-ends, ends-next, starts-next, ends-mark, ends-script, starts-text, ends-free, starts-free, node-ends, group-ends, ready-node, ready-free, prime-free, wide-3, next-made, text-made, bare-keeps}
-use Rattle.parse.proofs.SeqLaws.{after-none, only, after-one, first-below, after-two, after-two-swapped, old-below, beside-one, beside-two, as-two, left-alone, after-set, bare-as}
-use Rattle.parse.proofs.LeafLaws.{bare-leaf, alone-is, leaf-placed}
+use Rattle.parse.proofs.SeqLaws.{after-none, only, after-one, first-below, after-two, after-two-swapped, old-below, beside-one, beside-two, as-two, left-alone, after-prime, after-set, bare-as}
+use Rattle.parse.proofs.LeafLaws.{bare-leaf, alone-is, alone-script, leaf-placed}
 use Rattle.parse.proofs.LoopLaws.{loops-none, loops-ready, loops-few, loops-free, more-ends, more-append, more-less}
 use Rattle.parse.proofs.GroupLaws.{GroupLoop, group-end, group-refused, group-closed, group-turns}
 use Rattle.parse.proofs.WayLaws.{one-no, one-is, style-no, style-is, middle-no, middle-is, two-no, two-no-2, two-is, brace-no, brace-bare, brace-no-2, brace-is, sqrt-no, sqrt-is, root-no, root-no-2, root-is, slashed-no, slashed-is, fence-none, fence-some, left-no, left-no-2, left-is, begin-no, begin-is, node-no, node-is, scripts-none, scripts-no, scripts-is, second-none, second-again, second-no, second-is, limits-alone, limits-no, limit-is, limits-no-2, limits-is, lim-alone, lim-no, lim-is, node-few, single-zero, node-more, single-more, bare-no, bare-is, group-is, other-byte}
@@ -102,6 +102,7 @@ use Rattle.parser.proofs.make.make_scripts.Reads as make-scripts-reads
 use Rattle.parser.proofs.make.make_stretched.Reads as make-stretched-reads
 use Rattle.parser.proofs.make.make_two.Reads as make-two-reads
 use Rattle.parser.proofs.marks.fence_of.Reads as fence-of-reads
+use Rattle.parser.proofs.marks.is_usual_operand.Reads as is-usual-operand-reads
 use Rattle.parser.proofs.marks.leaf_of.Reads as leaf-of-reads
 use Rattle.parser.proofs.marks.other_limit.Reads as other-limit-reads
 use Rattle.parser.proofs.marks.repeats.Reads as repeats-reads
@@ -300,28 +301,16 @@ parse-two-below t =
     and 3 parse-two-kinds.ps (falls 3 parse-two-kinds.ps _<_ μ-parse-two t) parse-two.Pre
 
 abbrev scripts-at : ℕ → In 3 scripts-kinds.ps
-scripts-at t =
-    and 3 scripts-kinds.ps (is 3 scripts-kinds.ps μ-scripts t) scripts.Pre
+scripts-at t = and 3 scripts-kinds.ps (is 3 scripts-kinds.ps μ-scripts t) scripts.Pre
 
 abbrev scripts-below : ℕ → In 3 scripts-kinds.ps
-scripts-below t =
-    and
-    3
-    scripts-kinds.ps
-    (falls 3 scripts-kinds.ps _<_ μ-scripts t)
-    scripts.Pre
+scripts-below t = and 3 scripts-kinds.ps (falls 3 scripts-kinds.ps _<_ μ-scripts t) scripts.Pre
 
 abbrev second-at : ℕ → In 3 second-kinds.ps
-second-at t =
-    and 3 second-kinds.ps (is 3 second-kinds.ps μ-second t) second.Pre
+second-at t = and 3 second-kinds.ps (is 3 second-kinds.ps μ-second t) second.Pre
 
 abbrev second-below : ℕ → In 3 second-kinds.ps
-second-below t =
-    and
-    3
-    second-kinds.ps
-    (falls 3 second-kinds.ps _<_ μ-second t)
-    second.Pre
+second-below t = and 3 second-kinds.ps (falls 3 second-kinds.ps _<_ μ-second t) second.Pre
 
 -- the contracts that parse-bare is proved from
 abbrev parse-bare-calls : ℕ → parse-bare-lts.Claims
@@ -385,7 +374,7 @@ parse-two-calls t = (next-token-reads.Asked, next-token-reads.Learnt, parse-node
 
 -- the contracts that scripts is proved from
 abbrev scripts-calls : ℕ → scripts-lts.Claims
-scripts-calls t = (script-of-reads.Asked, script-of-reads.Learnt, next-token-reads.Asked, next-token-reads.Learnt, parse-single-node-below t, parse-single-node.Post, second-below t, second.Post)
+scripts-calls t = (script-of-reads.Asked, script-of-reads.Learnt, next-token-reads.Asked, next-token-reads.Learnt, is-usual-operand-reads.Asked, is-usual-operand-reads.Learnt, script-kind-reads.Asked, script-kind-reads.Learnt, leaf-of-reads.Asked, leaf-of-reads.Learnt, make-leaf-second-reads.Asked, make-leaf-second-reads.Learnt, parse-single-node-below t, parse-single-node.Post, second-below t, second.Post)
 
 -- the contracts that second is proved from
 abbrev second-calls : ℕ → second-lts.Claims
@@ -1355,7 +1344,7 @@ parse-node-scripts-requires t c κs =
     let m = (c .before .before .before .before .before .before .before .before .before .before .before .before .before .before .before .pre) .0 in
     let z = (c .before .before .before .before .before .before .before .before .before .before .before .before .if1) .left in
     let g = rw ((c .before .before .base) .given .1) at ((c .before .before .before .before .before .before .parse-single-node) .ensures) in
-    (omega arith, (ready-node ((c .before .before .before .before .before .before .parse-single-node) .kept .1 .0) ((c .before .before .before .before .before .before .before .before .before .before .before .before .before .before .before .pre) .1) (single-keeps (((c .before .before .before .before .before .before .before .before .before .before .before .before .before .before .before .args) .depth) - 1) ((c .before .before .before .before .before .before .before .before .before .before .before .before .before .before .before .args) .s .now)) g, g .below))
+    (omega arith, (ready-node ((c .before .before .before .before .before .before .parse-single-node) .kept .1 .0) ((c .before .before .before .before .before .before .before .before .before .before .before .before .before .before .before .pre) .1) (single-keeps (((c .before .before .before .before .before .before .before .before .before .before .before .before .before .before .before .args) .depth) - 1) ((c .before .before .before .before .before .before .before .before .before .before .before .before .before .before .before .args) .s .now)) g, g .below, omega arith))
 
 parse-node-same-length-2 : (t : ℕ) → parse-node-lts.Need-same-length-2 (parse-node-calls t) (parse-node-at t) parse-node.Post
 parse-node-same-length-2 t c = search needs
@@ -1733,11 +1722,33 @@ scripts-next-token-requires-2 : (t : ℕ) → scripts-lts.Need-next-token-requir
 scripts-next-token-requires-2 t c κs =
     may-next (ends-next ((c .before .before .before .before .before .before .before .before .pre) .1 .0) ((c .next-token) .ensures))
 
-scripts-parse-single-node-requires :
-    (t : ℕ) → scripts-lts.Need-parse-single-node-requires (scripts-calls t) (scripts-at t) scripts.Post
+scripts-is-usual-operand-requires : (t : ℕ) → scripts-lts.Need-is-usual-operand-requires (scripts-calls t) (scripts-at t) scripts.Post
+scripts-is-usual-operand-requires t c κs = search needs
+
+scripts-script-kind-requires : (t : ℕ) → scripts-lts.Need-script-kind-requires (scripts-calls t) (scripts-at t) scripts.Post
+scripts-script-kind-requires t c κs = search needs
+
+scripts-leaf-of-requires : (t : ℕ) → scripts-lts.Need-leaf-of-requires (scripts-calls t) (scripts-at t) scripts.Post
+scripts-leaf-of-requires t c κs = search needs
+
+scripts-make-leaf-second-requires : (t : ℕ) → scripts-lts.Need-make-leaf-second-requires (scripts-calls t) (scripts-at t) scripts.Post
+scripts-make-leaf-second-requires t c κs =
+    let h = (ends-script ((c .before .before .before .before .before .before .before .before .before .before .over) .given .0 .0) ((c .before .before .before .before .before .before .before .before .before .before .before .before .before .before .before .before .pre) .1 .0) (sym ((c .before .before .before .before .before .before .before .before .before .before .before .before .script-of) .ensures) ∙ (c .before .before .before .before .before .before .before .before .before .before .over) .given .1) ((c .before .before .before .before .before .before .before .before .next-token) .ensures) ((c .before .before .before .before .before .before .before .next-token2) .ensures)) in
+    let same = (next-made ((c .before .before .before .before .before .before .before .before .before .before .before .before .before .before .before .before .args) .s .now) _ ((c .before .before .before .before .before .before .before .next-token2) .ensures) ∙ next-made ((c .before .before .before .before .before .before .before .before .before .before .before .before .before .before .before .before .args) .s .now) ((c .before .before .before .before .before .before .before .before .before .before .before .before .before .before .before .before .args) .p) ((c .before .before .before .before .before .before .before .before .next-token) .ensures)) in
+    let below = (c .before .before .before .before .before .before .before .before .before .before .before .before .before .before .before .before .pre) .1 .1 in
+    (starts-free 2 h (omega arith), rw ((c .leaf-of) .ensures) (leaf-placed (length ((c .before .before .before .before .before .before .before .before .before .before .before .before .before .before .before .before .args) .s .now)) _ (h .long) (h .sound .cur .places)), omega arith)
+
+scripts-same-length : (t : ℕ) → scripts-lts.Need-same-length (scripts-calls t) (scripts-at t) scripts.Post
+scripts-same-length t c = search needs
+
+scripts-returns : (t : ℕ) → scripts-lts.Need-returns (scripts-calls t) (scripts-at t) scripts.Post
+scripts-returns t c =
+    after-prime _ _ ((c .before .before .before .before .before .before .before .before .before .before .before .before .before .before .before .before .before .before .before .args) .p) _ _ _ _ ((c .before .before .make-leaf-second) .result) (next-made ((c .before .before .before .before .before .before .before .before .before .before .before .before .before .before .before .before .before .before .before .args) .s .now) _ ((c .before .before .before .before .before .before .before .before .before .before .next-token2) .ensures) ∙ next-made ((c .before .before .before .before .before .before .before .before .before .before .before .before .before .before .before .before .before .before .before .args) .s .now) ((c .before .before .before .before .before .before .before .before .before .before .before .before .before .before .before .before .before .before .before .args) .p) ((c .before .before .before .before .before .before .before .before .before .before .before .next-token) .ensures)) (rw ((c .before .before .before .before .script-kind) .ensures, (c .before .before .before .leaf-of) .ensures) at ((c .before .before .make-leaf-second) .ensures)) (alone-script ((c .before .before .before .before .before .before .before .before .before .before .before .before .before .before .before .before .before .before .before .args) .depth) ((c .before .before .before .before .before .before .before .before .before .before .before .before .before .before .before .before .before .before .before .args) .s .now) ((c .before .before .before .before .before .before .before .before .before .before .before .before .before .before .before .before .before .before .before .args) .p) ((c .before .before .before .before .before .before .before .before .before .before .before .before .before .over) .given .0 .0) ((c .before .before .before .before .before .before .before .before .before .before .before .next-token) .ensures) ((c .before .before .before .before .before .before .before .before .before .before .next-token2) .ensures) (sym ((c .before .before .before .before .before .before .before .before .before .before .before .before .before .before .before .script-of) .ensures) ∙ (c .before .before .before .before .before .before .before .before .before .before .before .before .before .over) .given .1) ((c .before .before .before .before .before .before .before .before .before .before .before .before .before .before .before .before .before .before .before .pre) .1 .2) ((c .before .before .before .before .before .before .before .is-usual-operand) .ensures ((c .before .before .before .before .before .before .if1) .taken)))
+
+scripts-parse-single-node-requires : (t : ℕ) → scripts-lts.Need-parse-single-node-requires (scripts-calls t) (scripts-at t) scripts.Post
 scripts-parse-single-node-requires t c κs =
-    let m = (c .before .before .before .before .before .before .before .before .before .before .pre) .0 in
-    (omega arith, starts-ready (ends-script ((c .before .before .before .before .over) .given .0 .0) ((c .before .before .before .before .before .before .before .before .before .before .pre) .1 .0) (sym ((c .before .before .before .before .before .before .script-of) .ensures) ∙ (c .before .before .before .before .over) .given .1) ((c .before .before .next-token) .ensures) ((c .before .next-token2) .ensures)) (omega arith))
+    let m = (c .before .before .before .before .before .before .before .before .before .before .before .before .before .before .pre) .0 in
+    (omega arith, starts-ready (ends-script ((c .before .before .before .before .before .before .before .before .over) .given .0 .0) ((c .before .before .before .before .before .before .before .before .before .before .before .before .before .before .pre) .1 .0) (sym ((c .before .before .before .before .before .before .before .before .before .before .script-of) .ensures) ∙ (c .before .before .before .before .before .before .before .before .over) .given .1) ((c .before .before .before .before .before .before .next-token) .ensures) ((c .before .before .before .before .before .next-token2) .ensures)) (omega arith))
 
 scripts-enum-known-r : (t : ℕ) → scripts-lts.Need-enum-known-r (scripts-calls t) (scripts-at t) scripts.Post
 scripts-enum-known-r t c = search needs
@@ -1747,30 +1758,30 @@ scripts-enum-known-x t c = search needs
 
 scripts-second-requires : (t : ℕ) → scripts-lts.Need-second-requires (scripts-calls t) (scripts-at t) scripts.Post
 scripts-second-requires t c κs =
-    let m = (c .before .before .before .before .before .before .before .before .before .before .before .before .before .before .before .before .before .pre) .0 in
+    let m = (c .before .before .before .before .before .before .before .before .before .before .before .before .before .before .before .before .before .before .before .before .before .pre) .0 in
     let g = rw ((c .before .before .x) .given .1) at ((c .before .before .before .before .before .before .parse-single-node) .ensures) in
-    (omega arith, (node-ends ((c .before .before .before .before .before .before .parse-single-node) .kept .1 .0) 1 (ends-script ((c .before .before .before .before .before .before .before .before .before .before .before .over) .given .0 .0) ((c .before .before .before .before .before .before .before .before .before .before .before .before .before .before .before .before .before .pre) .1 .0) (sym ((c .before .before .before .before .before .before .before .before .before .before .before .before .before .script-of) .ensures) ∙ (c .before .before .before .before .before .before .before .before .before .before .before .over) .given .1) ((c .before .before .before .before .before .before .before .before .before .next-token) .ensures) ((c .before .before .before .before .before .before .before .before .next-token2) .ensures)) (omega arith) (single-keeps ((c .before .before .before .before .before .before .before .before .before .before .before .before .before .before .before .before .before .args) .depth) ((c .before .before .before .before .before .before .before .before .before .before .before .before .before .before .before .before .before .args) .s .now)) g, old-below _ _ ((c .before .before .before .before .before .before .before .before .before .before .before .before .before .before .before .before .before .args) .p) _ _ _ _ (next-made ((c .before .before .before .before .before .before .before .before .before .before .before .before .before .before .before .before .before .args) .s .now) _ ((c .before .before .before .before .before .before .before .before .next-token2) .ensures) ∙ next-made ((c .before .before .before .before .before .before .before .before .before .before .before .before .before .before .before .before .before .args) .s .now) ((c .before .before .before .before .before .before .before .before .before .before .before .before .before .before .before .before .before .args) .p) ((c .before .before .before .before .before .before .before .before .before .next-token) .ensures)) g ((c .before .before .before .before .before .before .before .before .before .before .before .before .before .before .before .before .before .args) .base) ((c .before .before .before .before .before .before .before .before .before .before .before .before .before .before .before .before .before .pre) .1 .1), g .below))
-
-scripts-returns : (t : ℕ) → scripts-lts.Need-returns (scripts-calls t) (scripts-at t) scripts.Post
-scripts-returns t c =
-    left-alone _ ((c .before .before .before .before .before .before .args) .p) ((c .before .before .before .before .before .before .args) .base) _ ((c .before .before .before .before .before .before .pre) .1 .1) (scripts-none (λ q. parseSingleNode ((c .before .before .before .before .before .before .args) .depth) ((c .before .before .before .before .before .before .args) .s .now) q) ((c .before .before .before .before .before .before .args) .s .now) ((c .before .before .before .before .before .before .args) .p) (sym ((c .before .before .script-of) .ensures) ∙ (c .enum-told) .given .1))
-
-scripts-same-length : (t : ℕ) → scripts-lts.Need-same-length (scripts-calls t) (scripts-at t) scripts.Post
-scripts-same-length t c = search needs
+    (omega arith, (node-ends ((c .before .before .before .before .before .before .parse-single-node) .kept .1 .0) 1 (ends-script ((c .before .before .before .before .before .before .before .before .before .before .before .before .before .before .before .over) .given .0 .0) ((c .before .before .before .before .before .before .before .before .before .before .before .before .before .before .before .before .before .before .before .before .before .pre) .1 .0) (sym ((c .before .before .before .before .before .before .before .before .before .before .before .before .before .before .before .before .before .script-of) .ensures) ∙ (c .before .before .before .before .before .before .before .before .before .before .before .before .before .before .before .over) .given .1) ((c .before .before .before .before .before .before .before .before .before .before .before .before .before .next-token) .ensures) ((c .before .before .before .before .before .before .before .before .before .before .before .before .next-token2) .ensures)) (omega arith) (single-keeps ((c .before .before .before .before .before .before .before .before .before .before .before .before .before .before .before .before .before .before .before .before .before .args) .depth) ((c .before .before .before .before .before .before .before .before .before .before .before .before .before .before .before .before .before .before .before .before .before .args) .s .now)) g, old-below _ _ ((c .before .before .before .before .before .before .before .before .before .before .before .before .before .before .before .before .before .before .before .before .before .args) .p) _ _ _ _ (next-made ((c .before .before .before .before .before .before .before .before .before .before .before .before .before .before .before .before .before .before .before .before .before .args) .s .now) _ ((c .before .before .before .before .before .before .before .before .before .before .before .before .next-token2) .ensures) ∙ next-made ((c .before .before .before .before .before .before .before .before .before .before .before .before .before .before .before .before .before .before .before .before .before .args) .s .now) ((c .before .before .before .before .before .before .before .before .before .before .before .before .before .before .before .before .before .before .before .before .before .args) .p) ((c .before .before .before .before .before .before .before .before .before .before .before .before .before .next-token) .ensures)) g ((c .before .before .before .before .before .before .before .before .before .before .before .before .before .before .before .before .before .before .before .before .before .args) .base) ((c .before .before .before .before .before .before .before .before .before .before .before .before .before .before .before .before .before .before .before .before .before .pre) .1 .1), g .below))
 
 scripts-returns-2 : (t : ℕ) → scripts-lts.Need-returns-2 (scripts-calls t) (scripts-at t) scripts.Post
 scripts-returns-2 t c =
-    let g = rw ((c .before .r) .given .1) at ((c .before .before .before .before .before .parse-single-node) .ensures) in
-    λ lo n le h. scripts-no (λ q. parseSingleNode ((c .before .before .before .before .before .before .before .before .before .before .before .before .before .before .before .before .args) .depth) ((c .before .before .before .before .before .before .before .before .before .before .before .before .before .before .before .before .args) .s .now) q) ((c .before .before .before .before .before .before .before .before .before .before .before .before .before .before .before .before .args) .s .now) ((c .before .before .before .before .before .before .before .before .before .before .before .before .before .before .before .before .args) .p) ((c .before .before .before .before .before .before .before .before .next-token) .ensures) ((c .before .before .before .before .before .before .before .next-token2) .ensures) ((c .before .before .before .before .before .before .before .before .before .before .over) .given .0 .0) (sym ((c .before .before .before .before .before .before .before .before .before .before .before .before .script-of) .ensures) ∙ (c .before .before .before .before .before .before .before .before .before .before .over) .given .1) g n
+    left-alone _ ((c .before .before .before .before .before .before .args) .p) ((c .before .before .before .before .before .before .args) .base) _ ((c .before .before .before .before .before .before .pre) .1 .1) (scripts-none (λ q. parseSingleNode ((c .before .before .before .before .before .before .args) .depth) ((c .before .before .before .before .before .before .args) .s .now) q) ((c .before .before .before .before .before .before .args) .s .now) ((c .before .before .before .before .before .before .args) .p) (sym ((c .before .before .script-of) .ensures) ∙ (c .enum-told) .given .1))
 
 scripts-same-length-2 : (t : ℕ) → scripts-lts.Need-same-length-2 (scripts-calls t) (scripts-at t) scripts.Post
-scripts-same-length-2 t c =
-    (c .before .before .second) .kept .1 .0 ∙ (c .before .before .before .before .before .before .before .before .before .parse-single-node) .kept .1 .0
+scripts-same-length-2 t c = search needs
 
 scripts-returns-3 : (t : ℕ) → scripts-lts.Need-returns-3 (scripts-calls t) (scripts-at t) scripts.Post
 scripts-returns-3 t c =
+    let g = rw ((c .before .r) .given .1) at ((c .before .before .before .before .before .parse-single-node) .ensures) in
+    λ lo n le h. scripts-no (λ q. parseSingleNode ((c .before .before .before .before .before .before .before .before .before .before .before .before .before .before .before .before .before .before .before .before .args) .depth) ((c .before .before .before .before .before .before .before .before .before .before .before .before .before .before .before .before .before .before .before .before .args) .s .now) q) ((c .before .before .before .before .before .before .before .before .before .before .before .before .before .before .before .before .before .before .before .before .args) .s .now) ((c .before .before .before .before .before .before .before .before .before .before .before .before .before .before .before .before .before .before .before .before .args) .p) ((c .before .before .before .before .before .before .before .before .before .before .before .before .next-token) .ensures) ((c .before .before .before .before .before .before .before .before .before .before .before .next-token2) .ensures) ((c .before .before .before .before .before .before .before .before .before .before .before .before .before .before .over) .given .0 .0) (sym ((c .before .before .before .before .before .before .before .before .before .before .before .before .before .before .before .before .script-of) .ensures) ∙ (c .before .before .before .before .before .before .before .before .before .before .before .before .before .before .over) .given .1) g n
+
+scripts-same-length-3 : (t : ℕ) → scripts-lts.Need-same-length-3 (scripts-calls t) (scripts-at t) scripts.Post
+scripts-same-length-3 t c =
+    (c .before .before .second) .kept .1 .0 ∙ (c .before .before .before .before .before .before .before .before .before .parse-single-node) .kept .1 .0
+
+scripts-returns-4 : (t : ℕ) → scripts-lts.Need-returns-4 (scripts-calls t) (scripts-at t) scripts.Post
+scripts-returns-4 t c =
     let g = rw ((c .before .before .before .before .before .x) .given .1) at ((c .before .before .before .before .before .before .before .before .before .parse-single-node) .ensures) in
-    beside-one _ _ ((c .before .before .before .before .before .before .before .before .before .before .before .before .before .before .before .before .before .before .before .before .args) .p) _ _ _ _ (next-made ((c .before .before .before .before .before .before .before .before .before .before .before .before .before .before .before .before .before .before .before .before .args) .s .now) _ ((c .before .before .before .before .before .before .before .before .before .before .before .next-token2) .ensures) ∙ next-made ((c .before .before .before .before .before .before .before .before .before .before .before .before .before .before .before .before .before .before .before .before .args) .s .now) ((c .before .before .before .before .before .before .before .before .before .before .before .before .before .before .before .before .before .before .before .before .args) .p) ((c .before .before .before .before .before .before .before .before .before .before .before .before .next-token) .ensures)) g ((c .before .before .before .before .before .before .before .before .before .before .before .before .before .before .before .before .before .before .before .before .args) .base) ((c .before .before .before .before .before .before .before .before .before .before .before .before .before .before .before .before .before .before .before .before .pre) .1 .1) _ _ _ _ ((c .before .before .second) .result) refl ((c .before .before .second) .ensures) (scripts-is (λ q. parseSingleNode ((c .before .before .before .before .before .before .before .before .before .before .before .before .before .before .before .before .before .before .before .before .args) .depth) ((c .before .before .before .before .before .before .before .before .before .before .before .before .before .before .before .before .before .before .before .before .args) .s .now) q) ((c .before .before .before .before .before .before .before .before .before .before .before .before .before .before .before .before .before .before .before .before .args) .s .now) ((c .before .before .before .before .before .before .before .before .before .before .before .before .before .before .before .before .before .before .before .before .args) .p) ((c .before .before .before .before .before .before .before .before .before .before .before .before .next-token) .ensures) ((c .before .before .before .before .before .before .before .before .before .before .before .next-token2) .ensures) ((c .before .before .before .before .before .before .before .before .before .before .before .before .before .before .over) .given .0 .0) (sym ((c .before .before .before .before .before .before .before .before .before .before .before .before .before .before .before .before .script-of) .ensures) ∙ (c .before .before .before .before .before .before .before .before .before .before .before .before .before .before .over) .given .1) (g .is))
+    beside-one _ _ ((c .before .before .before .before .before .before .before .before .before .before .before .before .before .before .before .before .before .before .before .before .before .before .before .before .args) .p) _ _ _ _ (next-made ((c .before .before .before .before .before .before .before .before .before .before .before .before .before .before .before .before .before .before .before .before .before .before .before .before .args) .s .now) _ ((c .before .before .before .before .before .before .before .before .before .before .before .before .before .before .before .next-token2) .ensures) ∙ next-made ((c .before .before .before .before .before .before .before .before .before .before .before .before .before .before .before .before .before .before .before .before .before .before .before .before .args) .s .now) ((c .before .before .before .before .before .before .before .before .before .before .before .before .before .before .before .before .before .before .before .before .before .before .before .before .args) .p) ((c .before .before .before .before .before .before .before .before .before .before .before .before .before .before .before .before .next-token) .ensures)) g ((c .before .before .before .before .before .before .before .before .before .before .before .before .before .before .before .before .before .before .before .before .before .before .before .before .args) .base) ((c .before .before .before .before .before .before .before .before .before .before .before .before .before .before .before .before .before .before .before .before .before .before .before .before .pre) .1 .1) _ _ _ _ ((c .before .before .second) .result) refl ((c .before .before .second) .ensures) (scripts-is (λ q. parseSingleNode ((c .before .before .before .before .before .before .before .before .before .before .before .before .before .before .before .before .before .before .before .before .before .before .before .before .args) .depth) ((c .before .before .before .before .before .before .before .before .before .before .before .before .before .before .before .before .before .before .before .before .before .before .before .before .args) .s .now) q) ((c .before .before .before .before .before .before .before .before .before .before .before .before .before .before .before .before .before .before .before .before .before .before .before .before .args) .s .now) ((c .before .before .before .before .before .before .before .before .before .before .before .before .before .before .before .before .before .before .before .before .before .before .before .before .args) .p) ((c .before .before .before .before .before .before .before .before .before .before .before .before .before .before .before .before .next-token) .ensures) ((c .before .before .before .before .before .before .before .before .before .before .before .before .before .before .before .next-token2) .ensures) ((c .before .before .before .before .before .before .before .before .before .before .before .before .before .before .before .before .before .before .over) .given .0 .0) (sym ((c .before .before .before .before .before .before .before .before .before .before .before .before .before .before .before .before .before .before .before .before .script-of) .ensures) ∙ (c .before .before .before .before .before .before .before .before .before .before .before .before .before .before .before .before .before .before .over) .given .1) (g .is))
 
 second-script-of-requires : (t : ℕ) → second-lts.Need-script-of-requires (second-calls t) (second-at t) second.Post
 second-script-of-requires t c κs = search needs
@@ -1803,8 +1814,7 @@ second-next-token-requires-2 : (t : ℕ) → second-lts.Need-next-token-requires
 second-next-token-requires-2 t c κs =
     may-next (ends-next ((c .before .before .before .before .before .before .before .before .before .before .pre) .1 .0) ((c .next-token) .ensures))
 
-second-parse-single-node-requires :
-    (t : ℕ) → second-lts.Need-parse-single-node-requires (second-calls t) (second-at t) second.Post
+second-parse-single-node-requires : (t : ℕ) → second-lts.Need-parse-single-node-requires (second-calls t) (second-at t) second.Post
 second-parse-single-node-requires t c κs =
     let m = (c .before .before .before .before .before .before .before .before .before .before .before .before .pre) .0 in
     (omega arith, starts-ready (ends-script ((c .before .before .before .before .before .before .again) .given .0 .0) ((c .before .before .before .before .before .before .before .before .before .before .before .before .pre) .1 .0) (sym ((c .before .before .before .before .before .before .before .before .script-of) .ensures) ∙ (c .before .before .before .before .before .before .again) .given .1) ((c .before .before .next-token) .ensures) ((c .before .next-token2) .ensures)) (omega arith))
@@ -2222,15 +2232,21 @@ pub +parse-bare+parse-begin+parse-brace+parse-group+parse-left+parse-lim+parse-l
     (scripts-enum-known-over t)
     (scripts-next-token-requires t)
     (scripts-next-token-requires-2 t)
+    (scripts-is-usual-operand-requires t)
+    (scripts-script-kind-requires t)
+    (scripts-leaf-of-requires t)
+    (scripts-make-leaf-second-requires t)
+    (scripts-same-length t)
+    (scripts-returns t)
     (scripts-parse-single-node-requires t)
     (scripts-enum-known-r t)
     (scripts-enum-known-x t)
     (scripts-second-requires t)
-    (scripts-returns t)
-    (scripts-same-length t)
     (scripts-returns-2 t)
     (scripts-same-length-2 t)
-    (scripts-returns-3 t))
+    (scripts-returns-3 t)
+    (scripts-same-length-3 t)
+    (scripts-returns-4 t))
     λ t. second-lts.spec (second-calls t)
     (second-at t)
     second.Post
