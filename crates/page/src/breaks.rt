@@ -43,7 +43,7 @@ fn two_line_ends(s: &[u8], i: usize) -> bool
     line_end(s, i + first) != 0
 }
 
-// The place of the first line end from a place on, or the length: it begins at the first line feed or at a CR before that.
+// The place of the first line end from a place on, or the length: it begins at the first line feed, or at a CR directly before it.
 fn next_line_end(s: &[u8], from: usize) -> usize
     requires { ⌜ from ≤ length (now s) ⌝ }
     ensures { λ r. ⌜ (r ≡ nextPlace inLineEnd from (drop from (now (s .entry)))) × (from ≤ r) × (r ≤ length (now (s .entry))) ⌝ }

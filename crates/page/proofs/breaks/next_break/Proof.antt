@@ -1,6 +1,6 @@
 -- `page::breaks::next_break` meets its contract. The invariant: the next break from i on is the next from the beginning on.
 -- Assumes nothing.
-use mathlib.Core.Path.{_≡_, refl, sym, _∙_}
+use mathlib.Core.Path.{_≡_, sym, _∙_}
 use Prim.Native.Nat.{_+_, _-_, _≤_}
 use lib.ListN.{length, drop}
 use Rattle.latex2mathml.specs.Dollars.{nextPlace}
