@@ -25,11 +25,11 @@ kindOf (matrix align ns) = Shape.Matrix align (count ns)
 -- the root's record has the numbers of its kind
 pub kind-held : (st : List ℕ) (lo i : ℕ) (t : Node) → holds st lo i t → fieldsOf (recordAt st i) ≡ fields (kindOf t)
 kind-held st lo i (leaf l) h = h .1 .kind
-kind-held st lo i (one k a) h = h .1 .stands .kind
-kind-held st lo i (two k a b) h = h .1 .stands .kind
-kind-held st lo i (three k a b c) h = h .1 .stands .kind
-kind-held st lo i (row ns) h = h .1 .stands .kind
-kind-held st lo i (matrix align ns) h = h .1 .stands .kind
+kind-held st lo i (one k a) h = h .stands .kind
+kind-held st lo i (two k a b) h = h .stands .kind
+kind-held st lo i (three k a b c) h = h .stands .kind
+kind-held st lo i (row ns) h = h .stands .kind
+kind-held st lo i (matrix align ns) h = h .rowed .stands .kind
 
 -- so what is read there is the kind
 pub shape-held : (st : List ℕ) (lo i : ℕ) (t : Node) → holds st lo i t → shapeOf (fieldsOf (recordAt st i)) ≡ kindOf t

@@ -1,7 +1,9 @@
+pub mod CellLaws
 pub mod HeldLaws
 pub mod KindLaws
 pub mod PlainLaws
 pub mod RowLaws
 pub mod ShapeLaws
 pub mod StoreLaws
+pub mod SumLaws
 pub mod VariantLaws

@@ -78,12 +78,11 @@ letter-turned : (st st′ : List ℕ) (lo i : ℕ) (v u : Variant) (c : ℕ) →
     → holds st lo i (leaf (Leaf.Letter c u)) → Turned st st′ lo i v (leaf (Leaf.Letter c u))
 unfolding setVariant setLeaf withAttr
 letter-turned st st′ lo i v u c put h =
-    let low-i = h .0 in
     let s = h .1 in
     let same = put .same in
     record {
       held = (
-        low-i,
+        h .0,
         record {
           kind = ap (λ q. fieldsOf q) same ∙ ap (λ f. numbers (f .tag) (variantCode v) (f .x) (f .y)) (s .kind);
           a = ap (λ q. q .a) same ∙ s .a;
@@ -131,27 +130,23 @@ count-set v (n then ns) = ap suc (count-set v ns)
 row-starts : (st : List ℕ) (lo i : ℕ) (v : Variant) (ns : Nodes) → holds st lo i (row ns) → Going st i v lo (row ns) st (recordAt st i .a) (count ns) ns
 unfolding setVariant
 row-starts st lo i v ns h =
-    let o = h .1 in
-    let s = o .stands in
+    let s = h .stands in
     record {
       mid = lo;
-      prev = o .p;
-      last = o .l;
+      prev = h .p;
+      last = h .l;
       low = le-refl lo;
       left = refl;
-      rest = rw (s .a) (o .nodes);
+      rest = rw (s .a) (h .nodes);
       below = λ j lt. refl;
       above = λ j lt. refl;
-      finish = λ st″ g e all. (
-        h .0,
-        record {
-          f = recordAt st i .a;
-          p = o .p;
-          l = o .l;
-          nodes = all;
-          stands = rw (count-set v ns) (stands-moved (same-but e) (record { kind = s .kind; a = refl; b = s .b; c = s .c }));
-        },
-      );
+      finish = λ st″ g e all. record {
+        f = recordAt st i .a;
+        p = h .p;
+        l = h .l;
+        nodes = all;
+        stands = rw (count-set v ns) (stands-moved (same-but e) (record { kind = s .kind; a = refl; b = s .b; c = s .c }));
+      };
     }
 
 -- a tree that the variant does not change has none
@@ -163,7 +158,7 @@ still-starts st lo i k v t e h = record {
   last = 0;
   low = low st lo i t h;
   left = refl;
-  rest = (refl, le-refl i);
+  rest = (refl, refl);
   below = λ j lt. refl;
   above = λ j lt. refl;
   finish = λ st″ g same all. rw e (frame st st″ lo i t (λ j p q. g j q) (same-but same) h);
@@ -194,8 +189,7 @@ unfolding count
 next-stored st₀ i v lo t st k n empty g lt room = let e = g .left in absurd (omega arith)
 next-stored st₀ i v lo t st k n (u then us) g lt room =
     let h = g .rest in
-    let a = low-all st (h .mid) (recordAt st k .next) k (g .last) i us (h .rest) in
-    let b = h .below in
+    let a = low-all st (suc k) (recordAt st k .next) k (g .last) i us (h .rest) in
     (record { lo = g .mid; tree = u; held = h .here; fits = omega arith }, omega arith)
 
 -- the next node is stored, and before the tree's root
@@ -212,26 +206,23 @@ step st₀ i v lo t st st₁ k n empty g lt s = let e = g .left in absurd (omega
 step st₀ i v lo t st st₁ k n (u then us) g lt s =
     let h = g .rest in
     let w = s .all (g .mid) u (h .here) in
-    let a = low-all st (h .mid) (recordAt st k .next) k (g .last) i us (h .rest) in
-    let b = h .below in
+    let a = low-all st (suc k) (recordAt st k .next) k (g .last) i us (h .rest) in
     let d = low st (g .mid) k u (h .here) in
     let e = g .left in
     let f = g .low in (
       us,
       record {
-        mid = h .mid;
+        mid = suc k;
         prev = k;
         last = g .last;
         low = omega arith;
         left = omega arith;
-        rest = rw (w .next) (frame-all st st₁ (h .mid) (recordAt st k .next) k (g .last) i us (λ j p q. w .above j (omega arith)) (h .rest));
+        rest = rw (w .next) (frame-all st st₁ (suc k) (recordAt st k .next) k (g .last) i us (λ j p q. w .above j (omega arith)) (h .rest));
         below = λ j q. w .below j (omega arith) ∙ g .below j q;
         above = λ j q. w .above j (omega arith) ∙ g .above j q;
         finish = λ st″ kept same all. g .finish st″ (λ j q. kept j (omega arith) ∙ w .below j q) same (record {
-          mid = h .mid;
-          here = frame st₁ st″ (g .mid) k (setVariant v u) (λ j p q. kept j (omega arith)) (same-but (kept k b)) (w .held);
-          below = b;
-          rest = rw (kept k b) all;
+          here = frame st₁ st″ (g .mid) k (setVariant v u) (λ j p q. kept j (omega arith)) (same-but (kept k (omega arith))) (w .held);
+          rest = rw (kept k (omega arith)) all;
         });
       },
     )

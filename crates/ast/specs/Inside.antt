@@ -3,6 +3,7 @@
 use Prim.Native.Nat.{ℕ, _≤_}
 use Rattle.token.specs.Debug.{Inside}
 use Rattle.ast.specs.declared.Leaf.{Leaf}
+use Rattle.ast.specs.declared.Shape.{Shape}
 use Rattle.ast.specs.Tree.{Node, leaf, one, two, three, row, matrix, Nodes, empty, _then_}
 
 abbrev pub LeafInside : ℕ → Leaf → Type 0
@@ -19,6 +20,15 @@ LeafInside n (Leaf.Text a e) = (a ≤ e) × (e ≤ n)
 LeafInside n Leaf.Ampersand = Unit {0}
 LeafInside n Leaf.NewLine = Unit {0}
 LeafInside n (Leaf.Undefined u) = Inside n u
+
+-- .. of the leaf that a record is
+abbrev pub ShapeInside : ℕ → Shape → Type 0
+ShapeInside n (Shape.Leaf l) = LeafInside n l
+ShapeInside n (Shape.One k) = Unit {0}
+ShapeInside n (Shape.Two k) = Unit {0}
+ShapeInside n (Shape.Three k) = Unit {0}
+ShapeInside n (Shape.Row c) = Unit {0}
+ShapeInside n (Shape.Matrix align c) = Unit {0}
 
 -- .. of every leaf of a tree
 abbrev mutual

@@ -4,5 +4,6 @@ pub mod Change
 pub mod Tree
 pub mod Inside
 pub mod Held
+pub mod Sum
 pub mod Turned
 pub mod Appended

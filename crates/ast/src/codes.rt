@@ -177,16 +177,18 @@ fn shape(f: Fields) -> Shape
     }
 }
 
+// The numbers of a record that say what node it is.
+pub fn fields_of(r: Record) -> Fields
+    ensures { λ f. ⌜ f ≡ fieldsOf r ⌝ }
+{
+    numbers(r.tag, r.attr, r.x, r.y)
+}
+
 // The node that a record is.
 pub fn shape_of(r: Record) -> Shape
     ensures { λ k. ⌜ k ≡ shapeOf (fieldsOf r) ⌝ }
 {
-    shape(Fields {
-        tag: r.tag,
-        attr: r.attr,
-        x: r.x,
-        y: r.y,
-    })
+    shape(fields_of(r))
 }
 
 // The role of the node that a record is, which takes less of the record than the node does.

@@ -15,6 +15,7 @@
 pub mod codes;
 pub mod rows;
 pub mod store;
+pub mod sum;
 pub mod variant;
 
 use attribute::Accent;
@@ -112,4 +113,18 @@ pub struct Fields {
     pub attr: u8,
     pub x: u32,
     pub y: u32,
+}
+
+// What becomes of a record where the records are added: it adds what it is, or what it is under a slash, or the finished tree does not hold
+// it.
+pub enum Fate {
+    Counted,
+    Slashed,
+    Dropped,
+}
+
+// The ampersands and the new lines among some nodes.
+pub struct Marks {
+    pub ampersands: usize,
+    pub lines: usize,
 }

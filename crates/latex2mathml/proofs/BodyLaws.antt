@@ -9,22 +9,22 @@ use native.Mathlib.Nat.{le-refl}
 use lib.ListN.{length}
 use Rattle.text.specs.Utf8.{wellFormed}
 use Rattle.text.specs.Nul.{hasNul}
-use Rattle.text.specs.Put.{put, Room, Puts}
-use Rattle.text.proofs.Cases.{never}
+use Rattle.text.specs.Put.{Room, Puts}
 use Rattle.attribute.specs.declared.DisplayStyle.{DisplayStyle}
 use Rattle.error.specs.declared.Refusal.{Refusal}
 use Rattle.markup.specs.Print.{printAll}
 use Rattle.parse.specs.Body.{parseBody, StoresBody}
 use Rattle.parse.proofs.LoopLaws.{count-few}
+use Rattle.print.specs.Measure.{Measurable}
 use Rattle.print.specs.Shown.{NodesAt, Printable, Prints}
 use Rattle.latex2mathml.specs.declared.Answer.{Answer}
 use Rattle.latex2mathml.specs.Outcome.{accepted}
 use Rattle.latex2mathml.specs.Translate.{inMath, translate}
 use Rattle.latex2mathml.specs.Replace.{translateBody}
-use Rattle.latex2mathml.specs.Written.{Gives}
+use Rattle.latex2mathml.specs.Written.{MathLong, Gives}
 use Rattle.latex2mathml.specs.Laid.{RoomFor, LaidThere}
 use Rattle.latex2mathml.proofs.TranslateLaws.{body-translated, body-too-large, body-fits, gives-nothing, gives-markup, math-short}
-use Rattle.latex2mathml.proofs.LayLaws.{laid-puts, laid-beyond, room-sure, room-count}
+use Rattle.latex2mathml.proofs.LayLaws.{laid-puts, laid-beyond, room-sure}
 
 module _ {s st : List ℕ} {first n hi : ℕ} (store : ℕ) (b : StoresBody s st (parseBody 256 s store) first n hi) where
   there : NodesAt s st hi first n (b .nodes)
@@ -58,48 +58,47 @@ module _ {s st : List ℕ} {first n hi : ℕ} (store : ℕ) (b : StoresBody s st
         let m = math-short s display (b .nodes) h (omega arith) in
         omega arith
 
-    -- there is room to count it, and to write it where the output is long enough
-    room : (write : Bool) (o : List ℕ) → (write ≡ true → length markup ≤ length o) → Room write o 0 (length markup)
-    room write o fits =
-        let l = small in
-        record { small = omega arith; inside = λ e. let f = fits e in omega arith }
+    -- the records can be measured
+    pub measurable : Measurable s st hi
+    measurable =
+        let f = b .few in
+        record {
+          nodes = b .nodes;
+          f = first;
+          p = b .prev;
+          l = b .last;
+          held = b .held;
+          inside = b .inside;
+          fits = b .fits;
+          few = omega arith;
+          short = h;
+        }
 
-    pub able : (write : Bool) (o : List ℕ) → (write ≡ true → length markup ≤ length o)
-        → Printable (NodesAt s st hi first n) (λ ns. inMath display (printAll s ns)) write o 0
-    able write o fits = record { what = b .nodes; there = there; room = room write o fits }
+    module _ {m : ℕ} (measured : MathLong display s st hi m) where
+      long : m ≡ length markup
+      long = measured .long first (b .prev) (b .last) (b .nodes) (b .held)
 
-    pub able-count : (o : List ℕ) → Printable (NodesAt s st hi first n) (λ ns. inMath display (printAll s ns)) false o 0
-    able-count o = able false o (λ e. never cc)
-
-    module _ {o o₁ : List ℕ} {r : ℕ} (counted : Prints (NodesAt s st hi first n) (λ ns. inMath display (printAll s ns)) false o o₁ 0 r) where
-      puts : Puts false o o₁ 0 markup r
-      puts = counted .all (b .nodes) there (room false o (λ e. never cc))
-
-      same : o₁ ≡ o
-      unfolding put
-      same = puts .output
-
-      long : r ≡ 0 + length markup
-      long = puts .place
-
-      pub able-write : r ≤ length o₁ → Printable (NodesAt s st hi first n) (λ ns. inMath display (printAll s ns)) true o₁ 0
-      able-write fits =
+      -- there is room to write it where the output is long enough
+      room : (o : List ℕ) → m ≤ length o → Room true o 0 (length markup)
+      room o fits =
           let l = long in
-          able true o₁ (λ e. omega arith)
+          let k = small in
+          record { small = omega arith; inside = λ e. omega arith }
 
-      pub too-large : wellFormed s ≡ true → hasNul s ≡ false → length o₁ < r → Gives (translate s display store (length o)) (Answer.Refused Refusal.OutputTooSmall) o o₁
-      too-large e n lt =
-          let l = long in
-          let z = ap length same in
-          rw same (gives-nothing o (body-too-large s display store (length o) h e n (b .is) (omega arith)))
+      pub able-write : (o : List ℕ) → m ≤ length o → Printable (NodesAt s st hi first n) (λ ns. inMath display (printAll s ns)) o 0
+      able-write o fits = record { what = b .nodes; there = there; room = room o fits }
 
-      pub written : {o₂ : List ℕ} {r₂ : ℕ} → wellFormed s ≡ true → hasNul s ≡ false → r ≤ length o₁ → Prints (NodesAt s st hi first n) (λ ns. inMath display (printAll s ns)) true o₁ o₂ 0 r₂
-          → Gives (translate s display store (length o)) (Answer.Accepted r) o o₂
-      written {o₂} {r₂} e n fits p =
+      pub too-large : {o : List ℕ} → wellFormed s ≡ true → hasNul s ≡ false → length o < m → Gives (translate s display store (length o)) (Answer.Refused Refusal.OutputTooSmall) o o
+      too-large {o} e no-nul lt =
           let l = long in
-          let z = ap length same in
-          let q : Puts true o o₂ 0 markup r₂ = rw same at (p .all (b .nodes) there (room true o₁ (λ t. omega arith))) in
-          gives-markup (body-fits s display store (length o) h e n (b .is) (omega arith)) l q
+          gives-nothing o (body-too-large s display store (length o) h e no-nul (b .is) (omega arith))
+
+      pub written : {o o′ : List ℕ} {r : ℕ} → wellFormed s ≡ true → hasNul s ≡ false → m ≤ length o → Prints (NodesAt s st hi first n) (λ ns. inMath display (printAll s ns)) o o′ 0 r
+          → Gives (translate s display store (length o)) (Answer.Accepted m) o o′
+      written {o} {o′} {r} e no-nul fits p =
+          let l = long in
+          let q : Puts true o o′ 0 markup r = p .all (b .nodes) there (room o fits) in
+          gives-markup (body-fits s display store (length o) h e no-nul (b .is) (omega arith)) (omega arith) q
 
   -- ---- laid at a place, as a body of a document
   module _ (display : DisplayStyle) (sure : Bool) (o : List ℕ) (at : ℕ) (room-for : RoomFor (translateBody store display s) sure o at) where
@@ -109,49 +108,47 @@ module _ {s st : List ℕ} {first n hi : ℕ} (store : ℕ) (b : StoresBody s st
     is : translateBody store display s ≡ accepted text
     is = body-translated s display store (b .is)
 
-    shows : (write : Bool) → Room write o at (length text) → Printable (NodesAt s st hi first n) (λ ns. inMath display (printAll s ns)) write o at
-    shows write h = record { what = b .nodes; there = there; room = h }
+    shows : Room true o at (length text) → Printable (NodesAt s st hi first n) (λ ns. inMath display (printAll s ns)) o at
+    shows h = record { what = b .nodes; there = there; room = h }
 
-    pub show-sure : sure ≡ true → Printable (NodesAt s st hi first n) (λ ns. inMath display (printAll s ns)) true o at
-    show-sure e = shows true (room-sure (room-for text is) e)
-
-    pub show-count : Printable (NodesAt s st hi first n) (λ ns. inMath display (printAll s ns)) false o at
-    show-count = shows false (room-count (room-for text is))
+    pub show-sure : sure ≡ true → Printable (NodesAt s st hi first n) (λ ns. inMath display (printAll s ns)) o at
+    show-sure e = shows (room-sure (room-for text is) e)
 
     pub lay-sure : {o′ : List ℕ} {r : ℕ} → sure ≡ true
-        → Prints (NodesAt s st hi first n) (λ ns. inMath display (printAll s ns)) true o o′ at r → LaidThere (translateBody store display s) o o′ at r
+        → Prints (NodesAt s st hi first n) (λ ns. inMath display (printAll s ns)) o o′ at r → LaidThere (translateBody store display s) o o′ at r
     lay-sure e p =
         let room = room-sure (room-for text is) e in
         let q = p .all (b .nodes) there room in
         let f = room .inside refl in
         record { text = text; is = is; place = q .place; laid = laid-puts (omega arith) q }
 
-    module _ {o₁ : List ℕ} {r : ℕ} (counted : Prints (NodesAt s st hi first n) (λ ns. inMath display (printAll s ns)) false o o₁ at r) where
-      count : Puts false o o₁ at text r
-      count = counted .all (b .nodes) there (room-count (room-for text is))
+    module _ {m r : ℕ} (measured : MathLong display s st hi m) (place : r ≡ at + m) where
+      behind : r ≡ at + length text
+      behind = place ∙ ap (λ k. at + k) (measured .long first (b .prev) (b .last) (b .nodes) (b .held))
 
-      unchanged : o₁ ≡ o
-      unfolding put
-      unchanged = count .output
-
-      pub lay-beyond : length o₁ < r → LaidThere (translateBody store display s) o o₁ at r
+      pub lay-beyond : length o < r → LaidThere (translateBody store display s) o o at r
       lay-beyond h =
-          let e = count .place in
-          let z = ap length unchanged in
-          record { text = text; is = is; place = e; laid = rw unchanged (laid-beyond o text at (omega arith)) }
+          let e = behind in
+          record { text = text; is = is; place = e; laid = laid-beyond o text at (omega arith) }
 
-      fitting : r ≤ length o₁ → Room true o at (length text)
+      fitting : r ≤ length o → Room true o at (length text)
       fitting h =
-          let e = count .place in
-          let z = ap length unchanged in
+          let e = behind in
           record { small = room-for text is .small; inside = λ t. omega arith }
 
-      pub show-fitting : r ≤ length o₁ → Printable (NodesAt s st hi first n) (λ ns. inMath display (printAll s ns)) true o₁ at
-      show-fitting h = rw unchanged (shows true (fitting h))
+      pub show-fitting : r ≤ length o → Printable (NodesAt s st hi first n) (λ ns. inMath display (printAll s ns)) o at
+      show-fitting h = shows (fitting h)
 
-      pub lay-fitting : {o₂ : List ℕ} {r₂ : ℕ} → r ≤ length o₁
-          → Prints (NodesAt s st hi first n) (λ ns. inMath display (printAll s ns)) true o₁ o₂ at r₂ → LaidThere (translateBody store display s) o o₂ at r
+      pub lay-fitting : {o′ : List ℕ} {r′ : ℕ} → r ≤ length o
+          → Prints (NodesAt s st hi first n) (λ ns. inMath display (printAll s ns)) o o′ at r′ → LaidThere (translateBody store display s) o o′ at r
       lay-fitting h p =
-          let q = (rw unchanged at p) .all (b .nodes) there (fitting h) in
+          let q = p .all (b .nodes) there (fitting h) in
           let f = fitting h .inside refl in
-          record { text = text; is = is; place = count .place; laid = laid-puts (omega arith) q }
+          record { text = text; is = is; place = behind; laid = laid-puts (omega arith) q }
+
+    -- the place behind it is a number of the machine
+    pub lay-small : {m : ℕ} → MathLong display s st hi m → at + m < 2 ^ 64
+    lay-small measured =
+        let e = measured .long first (b .prev) (b .last) (b .nodes) (b .held) in
+        let k = room-for text is .small in
+        omega arith

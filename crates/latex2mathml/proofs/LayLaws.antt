@@ -9,7 +9,6 @@ use native.Mathlib.Nat.{add-zero}
 use lib.ListN.{length, take, drop, length-append}
 use lib.Seq.{take-at, take-take, length-take-le}
 use Rattle.text.specs.Put.{put, Room, Puts}
-use Rattle.text.proofs.Cases.{never}
 use Rattle.text.proofs.PutLaws.{puts-then, puts-nothing}
 use Rattle.latex2mathml.specs.Laid.{Laid}
 
@@ -26,12 +25,9 @@ laid-beyond o m at h = (λ fits. absurd (omega arith), refl)
 pub laid-nothing : (o : List ℕ) (at : ℕ) → Laid o o at []
 laid-nothing o at = (λ fits. puts-nothing true o at .output, refl)
 
--- there is room to put what is sure to fit, and to count any other
+-- there is room to put what is sure to fit
 pub room-sure : {sure : Bool} {o : List ℕ} {at n : ℕ} → Room sure o at n → sure ≡ true → Room true o at n
 room-sure h e = record { small = h .small; inside = λ t. h .inside e }
-
-pub room-count : {sure : Bool} {o : List ℕ} {at n : ℕ} → Room sure o at n → Room false o at n
-room-count h = record { small = h .small; inside = λ t. never cc }
 
 -- what is unchanged before a place is so before an earlier one
 pub front-less : (at place : ℕ) (o o′ : List ℕ) → at ≤ place → take place o′ ≡ take place o → take at o′ ≡ take at o

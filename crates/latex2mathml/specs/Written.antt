@@ -8,14 +8,21 @@ use Rattle.text.specs.Text.{bytes}
 use Rattle.attribute.specs.declared.DisplayStyle.{DisplayStyle}
 use Rattle.attribute.specs.Names.{displayStyle}
 use Rattle.error.specs.Numbers.{number}
+use Rattle.ast.specs.Tree.{Nodes}
+use Rattle.ast.specs.Held.{holdsAll}
+use Rattle.markup.specs.Print.{printAll}
 use Rattle.latex2mathml.specs.declared.Answer.{Answer}
 use Rattle.latex2mathml.specs.Outcome.{Outcome, numberOf, bytesOf}
-use Rattle.latex2mathml.specs.Translate.{translate}
+use Rattle.latex2mathml.specs.Translate.{inMath, translate}
 use Rattle.latex2mathml.specs.Replace.{replace}
 
 -- the opening tag of the wrapper
 unfoldable pub opening : DisplayStyle → List ℕ
 opening display = bytes "<math xmlns=\"http://www.w3.org/1998/Math/MathML\" display=\"" ++ bytes (displayStyle display) ++ bytes "\">"
+
+-- r is the length of the markup, in its wrapper, of whatever nodes of the body s fill the first `top` records
+pub record MathLong (display : DisplayStyle) (s st : List ℕ) (top r : ℕ) : Type 0 where
+  pub long : (f p l : ℕ) (ns : Nodes) → holdsAll st 0 f p l top ns → r ≡ length (inMath display (printAll s ns))
 
 -- what an answer says: its number, and the length of what was written
 unfoldable pub answerNumber : Answer → ℕ

@@ -5,6 +5,7 @@ use crate::dollars::is_prose;
 use crate::dollars::next_mark;
 use crate::dollars::odd_marks;
 use crate::dollars::three_dollars;
+use crate::translate::math_len;
 use crate::translate::put_math;
 use attribute::DisplayStyle;
 use error::Refusal;
@@ -55,14 +56,14 @@ fn lay_body(
         ParsedNodes::Nodes(first, count, made) => {
             let n = count as u32;
             if sure {
-                let end = put_math(s, display, store, first, n, made, out, at, true, table);
+                let end = put_math(s, display, store, first, n, made, out, at, table);
                 return Answer::Accepted(end);
             }
-            let end = put_math(s, display, store, first, n, made, out, at, false, table);
+            let end = at + math_len(s, display, store, made, table);
             if out.len() < end {
                 return Answer::Accepted(end);
             }
-            put_math(s, display, store, first, n, made, out, at, true, table);
+            put_math(s, display, store, first, n, made, out, at, table);
             Answer::Accepted(end)
         }
     }

@@ -6,6 +6,7 @@ use error::Refusal;
 use markup::Place;
 use parse::ParsedNodes;
 use parse::body::parse;
+use print::measure::measure;
 use print::print_nodes;
 use text::has_nul;
 use text::put::put;
@@ -13,30 +14,33 @@ use text::well_formed;
 use token::table::Table;
 use token::table::table;
 ghost use mathlib.Core.Path.{_≡_};
+ghost use mathlib.Core.Bool.{true};
+ghost use mathlib.Core.List.{[]};
 ghost use lib.ListN.{length};
 ghost use Rattle.text.specs.Put.{Room, Puts};
 ghost use Rattle.token.specs.Key.{rows};
 ghost use Rattle.markup.specs.Print.{printAll};
 ghost use Rattle.print.specs.Shown.{NodesAt, Printable, Prints};
+ghost use Rattle.print.specs.Measure.{Measurable};
 ghost use Rattle.latex2mathml.specs.Translate.{inMath};
-ghost use Rattle.latex2mathml.specs.Written.{opening, Free, Translates};
+ghost use Rattle.latex2mathml.specs.Written.{opening, MathLong, Free, Translates};
 
 // Puts the opening tag of the wrapper.
-fn put_opening(display: DisplayStyle, out: &mut [u8], at: usize, write: bool) -> usize
-    requires { ⌜ Room write (now out) at (length (opening display)) ⌝ }
-    ensures { λ r. ⌜ Puts write (now (out .entry)) (now (out .exit)) at (opening display) r ⌝ }
+fn put_opening(display: DisplayStyle, out: &mut [u8], at: usize) -> usize
+    requires { ⌜ Room true (now out) at (length (opening display)) ⌝ }
+    ensures { λ r. ⌜ Puts true (now (out .entry)) (now (out .exit)) at (opening display) r ⌝ }
 {
     let name = put(
         b"<math xmlns=\"http://www.w3.org/1998/Math/MathML\" display=\"",
         out,
         at,
-        write,
+        true,
     );
-    let end = put_display_style(display, out, name, write);
-    put(b"\">", out, end, write)
+    let end = put_display_style(display, out, name, true);
+    put(b"\">", out, end, true)
 }
 
-// Puts the markup of n nodes of the body from the index a on in its wrapper, or counts it.
+// Puts the markup of n nodes of the body from the index a on in its wrapper.
 pub(crate) fn put_math(
     s: &[u8],
     display: DisplayStyle,
@@ -46,15 +50,39 @@ pub(crate) fn put_math(
     left: usize,
     out: &mut [u8],
     at: usize,
-    write: bool,
     table: &Table,
 ) -> usize
-    requires { ⌜ Printable (NodesAt (now s) (now store) left a n) (λ ns. inMath display (printAll (now s) ns)) write (now out) at × (now table ≡ rows) ⌝ }
-    ensures { λ r. ⌜ Prints (NodesAt (now (s .entry)) (now (store .entry)) left a n) (λ ns. inMath display (printAll (now (s .entry)) ns)) write (now (out .entry)) (now (out .exit)) at r ⌝ }
+    requires { ⌜ Printable (NodesAt (now s) (now store) left a n) (λ ns. inMath display (printAll (now s) ns)) (now out) at × (now table ≡ rows) ⌝ }
+    ensures { λ r. ⌜ Prints (NodesAt (now (s .entry)) (now (store .entry)) left a n) (λ ns. inMath display (printAll (now (s .entry)) ns)) (now (out .entry)) (now (out .exit)) at r ⌝ }
 {
-    let inner = put_opening(display, out, at, write);
-    let end = print_nodes(Place::Plain, s, store, a, n, left, out, inner, write, table);
-    put(b"</math>", out, end, write)
+    let inner = put_opening(display, out, at);
+    let end = print_nodes(Place::Plain, s, store, a, n, left, out, inner, table);
+    put(b"</math>", out, end, true)
+}
+
+// The length of the wrapper.
+fn wrapper_len(display: DisplayStyle) -> usize
+    ensures { λ r. ⌜ r ≡ length (inMath display []) ⌝ }
+{
+    match display {
+        DisplayStyle::Block => 72,
+        DisplayStyle::Inline => 73,
+    }
+}
+
+// The length of the markup of the nodes of the body that fill the first `made` records, in its wrapper.
+pub(crate) fn math_len(
+    s: &[u8],
+    display: DisplayStyle,
+    store: &[u8],
+    made: usize,
+    table: &Table,
+) -> usize
+    requires { ⌜ Measurable (now s) (now store) made × (now table ≡ rows) ⌝ }
+    ensures { λ r. ⌜ MathLong display (now (s .entry)) (now (store .entry)) made r ⌝ }
+{
+    let m = measure(s, store, made, table);
+    wrapper_len(display) + m.length
 }
 
 // The markup of a body, with the nodes of its tree in a lent store: measured, then written.
@@ -75,11 +103,11 @@ pub fn latex_to_mathml(s: &[u8], display: DisplayStyle, store: &mut [u8], out: &
         ParsedNodes::Refused(r) => Answer::Refused(r),
         ParsedNodes::Nodes(first, count, made) => {
             let n = count as u32;
-            let length = put_math(s, display, store, first, n, made, out, 0, false, &commands);
+            let length = math_len(s, display, store, made, &commands);
             if out.len() < length {
                 return Answer::Refused(Refusal::OutputTooSmall);
             }
-            put_math(s, display, store, first, n, made, out, 0, true, &commands);
+            put_math(s, display, store, first, n, made, out, 0, &commands);
             Answer::Accepted(length)
         }
     }

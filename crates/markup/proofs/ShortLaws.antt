@@ -55,16 +55,16 @@ listed-short [] i = zero-le
 listed-short (t ∷ l) zero = omega arith
 listed-short (t ∷ l) (suc i) = omega (arith, listed-short l i)
 
-fixed-short : (t : ℕ) → length (fixedText t) ≤ 7
+pub fixed-short : (t : ℕ) → length (fixedText t) ≤ 7
 unfolding text-opens fixedText textOf texts
 fixed-short t = listed-short texts t
 
-width-short : (w : ℕ) → length (widthText w) ≤ 11
+pub width-short : (w : ℕ) → length (widthText w) ≤ 11
 unfolding text-opens widthText widthOf printedWidths
 width-short w = listed-short printedWidths w
 
 -- a character
-encode-short : (c : ℕ) → length (encode c) ≤ 4
+pub encode-short : (c : ℕ) → length (encode c) ≤ 4
 encode-short c =
     by-order c 0x80
     (λ a. rw (encode-1 c a) (omega arith))
@@ -77,7 +77,7 @@ encode-short c =
     (λ d. rw (encode-4 c d) (omega arith))))
 
 -- a variant's attribute, the longest for sans-serif-bold-italic
-variant-short : (v : Variant) → length (variantText v) ≤ 37
+pub variant-short : (v : Variant) → length (variantText v) ≤ 37
 unfolding text-opens variantText variant
 variant-short Normal = omega arith
 variant-short Italic = omega arith
@@ -113,7 +113,7 @@ unfolding encodeAll
 encoded-short [] = zero-le
 encoded-short (c ∷ cs) = simp length-append (omega (arith, encode-short c, encoded-short cs))
 
-letters-short : (s : List ℕ) (a e : ℕ) → length (letterText s a e) ≤ 4 * length s
+pub letters-short : (s : List ℕ) (a e : ℕ) → length (letterText s a e) ≤ 4 * length s
 unfolding letterText letters
 letters-short s a e =
     let l = part a e s in
@@ -140,7 +140,7 @@ byte-short (e ∷ es) b =
     (λ q. rw (escapeBy, q) (omega (arith, byte-short es b)))
 
 -- .. and so are the bytes of a text
-escape-short : (l : List ℕ) → length (escape l) ≤ 6 * length l
+pub escape-short : (l : List ℕ) → length (escape l) ≤ 6 * length l
 unfolding escape escapes text-opens
 escape-short [] = zero-le
 escape-short (b ∷ l) = simp length-append (omega (arith, byte-short escapes b, escape-short l))
@@ -151,7 +151,7 @@ unfolding orNul
 nul-short [] = omega arith
 nul-short (b ∷ l) = omega arith
 
-debug-short : (s : List ℕ) (u : Undefined) → length (debug s u) ≤ 6 * length s + 17
+pub debug-short : (s : List ℕ) (u : Undefined) → length (debug s u) ≤ 6 * length s + 17
 unfolding text-opens debug commandName
 debug-short s Undefined.EOF = omega arith
 debug-short s Undefined.End = omega arith
@@ -233,22 +233,22 @@ kept (row ns) m = omega arith
 kept (matrix align ns) m = omega arith
 
 -- what a node adds to the markup of its parts is at most 400 bytes
-accent-short : (acc : Accent) → length (bytes (accent acc)) ≤ 5
+pub accent-short : (acc : Accent) → length (bytes (accent acc)) ≤ 5
 unfolding text-opens accent
 accent-short True = omega arith
 accent-short False = omega arith
 
-display-short : (d : DisplayStyle) → length (displayText d) ≤ 5
+pub display-short : (d : DisplayStyle) → length (displayText d) ≤ 5
 unfolding text-opens displayText
 display-short Block = omega arith
 display-short Inline = omega arith
 
-line-short : (lt : LineThickness) → length (bytes (lineThickness lt)) ≤ 18
+pub line-short : (lt : LineThickness) → length (bytes (lineThickness lt)) ≤ 18
 unfolding text-opens lineThickness
 line-short Medium = omega arith
 line-short Zero = omega arith
 
-align-short : (align : ColumnAlign) → length (bytes (columnAlign align)) ≤ 17
+pub align-short : (align : ColumnAlign) → length (bytes (columnAlign align)) ≤ 17
 unfolding text-opens columnAlign
 align-short Center = omega arith
 align-short Left = omega arith

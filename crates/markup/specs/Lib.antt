@@ -1,3 +1,4 @@
 pub mod Print
 pub mod Fronts
 pub mod Examples
+pub mod Own

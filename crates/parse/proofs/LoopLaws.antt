@@ -5,7 +5,6 @@ use mathlib.Core.Bool.{false}
 use mathlib.Core.List.{List}
 use Prim.Native.Nat.{ℕ, zero, suc, _+_, _-_, _*_, _≤_, _<_}
 use native.Mathlib.Omega.{arith}
-use native.Mathlib.Nat.{le-refl}
 use lib.ListN.{length}
 use Rattle.token.specs.declared.Mark.{Mark}
 use Rattle.ast.specs.Store.{recordAt}
@@ -30,8 +29,7 @@ unfolding count
 count-few st lo f p l hi empty h = let e = h .1 in omega arith
 count-few st lo f p l hi (n then ns) h =
     let a = low st lo f n (h .here) in
-    let b = h .below in
-    let c = count-few st (h .mid) (recordAt st f .next) f l hi ns (h .rest) in
+    let c = count-few st (suc f) (recordAt st f .next) f l hi ns (h .rest) in
     omega arith
 
 pub count-snoc : (ns : Nodes) (n : Node) → count (snoc ns n) ≡ count ns + 1
@@ -79,7 +77,7 @@ loops-none {A} {tab} {s} {rest} {q₀} {st} h = record {
   is = refl;
   enough = omega arith;
   spare = h;
-  held = (refl, le-refl (q₀ .made));
+  held = (refl, refl);
   many = refl;
   small = omega arith;
   reach = omega arith;
@@ -125,7 +123,7 @@ module _ {A : Type 0} {tab s : List ℕ} {rest : Rest A} {q₀ : Parser} {st₀ 
     pub more-append : (last * 24 + 24 ≤ length st₁) × (i < 65536)
     more-append =
         let a = more-low in
-        let d = b .below in
+        let d = b .last in
         let h = more-ends in
         let i = h .sound .cur .inside in
         let room = h .room in
@@ -145,7 +143,7 @@ module _ {A : Type 0} {tab s : List ℕ} {rest : Rest A} {q₀ : Parser} {st₀ 
     unfolding next
     more-turns st₂ first′ r′ len₂ ap₂ step turn =
         let a = more-low in
-        let d = b .below in
+        let d = b .last in
         let h = more-ends in
         let room = h .room in
         let lent = h .lent in

@@ -50,7 +50,7 @@ ghost use Rattle.token.specs.Roles.{markNumber};
 ghost use Rattle.token.specs.Key.{rows};
 ghost use Rattle.parser.specs.Parse.{build, parseNode, parseSingleNode, parseGroup, parseSqrt, parseTwo, parseOne, parseBrace, parseLimits, parseLim, parseSlashed, parseStyle, parseLeft, parseMiddle, parseBig, parseBegin, parseTextLeaf, parseBare, primed, parseSecond, parseScripts};
 ghost use Rattle.parser.specs.Marks.{scriptOf};
-ghost use Rattle.parser.specs.Built.{Ready, Ends, Free, Primed, Builds, BuildsOne, BuildsTwo};
+ghost use Rattle.parser.specs.Built.{Ready, Ends, Free, Primed, Builds, BuildsOne, BuildsBehind};
 
 // The Rust's `Result<Vec<Node>, LatexError>`: the index of the first of some nodes, linked by next, how many they are, and how many records
 // are made; or why there are none.
@@ -126,7 +126,7 @@ fn second(
     table: &Table,
 ) -> ParsedNode
     requires { ⌜ Ends (now table) (now s) (now store) p 1 × (base < p .made) × (x < p .made) ⌝ }
-    ensures { λ r. ⌜ BuildsTwo (now (store .entry)) (now (store .exit)) p base x (λ m n. parseSecond (λ q. parseSingleNode depth (now (s .entry)) q) (now (s .entry)) over (scriptOf (p .peek .token)) m n p) r ⌝ }
+    ensures { λ r. ⌜ BuildsBehind (now (store .entry)) (now (store .exit)) p base x (λ m n. parseSecond (λ q. parseSingleNode depth (now (s .entry)) q) (now (s .entry)) over (scriptOf (p .peek .token)) m n p) r ⌝ }
 {
     let peek = p.peek;
     let token = peek.token;

@@ -33,9 +33,11 @@ ghost use Rattle.token.specs.Roles.{parenOf};
 ghost use Rattle.ast.specs.Shape.{Placed};
 ghost use Rattle.ast.specs.Store.{Put};
 ghost use Rattle.ast.specs.Tree.{leaf, one, two, three};
+ghost use mathlib.Core.Option.{none};
+ghost use Rattle.ast.specs.Held.{operandOf};
 ghost use Rattle.parser.specs.Parse.{build, grouped, ofPair, operator, withBelow, withAbove, withBoth, fenced, stretch, stretched, sized, opened, inEnvironment, subSup, bothScripts};
 ghost use Rattle.parser.specs.Marks.{scriptOf};
-ghost use Rattle.parser.specs.Built.{nodeRecord, Free, BuildsNone, BuildsOne, BuildsTwo, BuildsThree, BuildsRow, withLimit, withLimits};
+ghost use Rattle.parser.specs.Built.{nodeRecord, Free, BuildsNone, BuildsLeaf, BuildsOne, BuildsTwo, BuildsBehind, BuildsThree, BuildsRow, BuildsMatrix, withLimit, withLimits};
 
 // Puts a node of which the numbers are f, with its parts, at an index.
 fn put_node(store: &mut [u8], i: usize, f: Fields, a: usize, b: usize, c: usize)
@@ -72,7 +74,7 @@ fn done(p: Parser, k: usize) -> ParsedNode
 // A node with no part.
 pub fn make_leaf(store: &mut [u8], p: Parser, l: Leaf) -> ParsedNode
     requires { ⌜ Free (now store) p 1 × Placed l ⌝ }
-    ensures { λ r. ⌜ BuildsNone (now (store .entry)) (now (store .exit)) p (build 1 (leaf l) p) r ⌝ }
+    ensures { λ r. ⌜ BuildsLeaf (now (store .entry)) (now (store .exit)) p l (build 1 (leaf l) p) r ⌝ }
 {
     put_node(store, p.made, codes::leaf_fields(l), 0, 0, 0);
     done(p, 1)
@@ -145,7 +147,7 @@ pub fn make_scripts(
 
 // A node whose first part is a leaf.
 pub fn make_leaf_first(store: &mut [u8], p: Parser, k: Two, l: Leaf, b: usize) -> ParsedNode
-    requires { ⌜ Free (now store) p 2 × Placed l × (b < p .made) ⌝ }
+    requires { ⌜ Free (now store) p 2 × Placed l × (b < p .made) × (operandOf l ≡ none) ⌝ }
     ensures { λ r. ⌜ BuildsOne (now (store .entry)) (now (store .exit)) p b (λ n. build 2 (two k (leaf l) n) p) r ⌝ }
 {
     let i = p.made;
@@ -156,7 +158,7 @@ pub fn make_leaf_first(store: &mut [u8], p: Parser, k: Two, l: Leaf, b: usize) -
 
 // A node whose second part is a leaf.
 pub fn make_leaf_second(store: &mut [u8], p: Parser, k: Two, a: usize, l: Leaf) -> ParsedNode
-    requires { ⌜ Free (now store) p 2 × Placed l × (a < p .made) ⌝ }
+    requires { ⌜ Free (now store) p 2 × Placed l × (a < p .made) × (operandOf l ≡ none) ⌝ }
     ensures { λ r. ⌜ BuildsOne (now (store .entry)) (now (store .exit)) p a (λ n. build 2 (two k n (leaf l)) p) r ⌝ }
 {
     let i = p.made;
@@ -220,7 +222,7 @@ pub fn make_explained(
     expl: usize,
 ) -> ParsedNode
     requires { ⌜ Free (now store) p 3 × (target < p .made) × (expl < p .made) ⌝ }
-    ensures { λ r. ⌜ BuildsTwo (now (store .entry)) (now (store .exit)) p target expl (λ m n. build 3 (two k m (two k (leaf (Leaf.Operator x)) n)) p) r ⌝ }
+    ensures { λ r. ⌜ BuildsBehind (now (store .entry)) (now (store .exit)) p target expl (λ m n. build 3 (two k m (two k (leaf (Leaf.Operator x)) n)) p) r ⌝ }
 {
     let i = p.made;
     put_node(store, i, codes::leaf_fields(Leaf::Operator(x)), 0, 0, 0);
@@ -372,7 +374,7 @@ fn make_matrix(
     count: u32,
 ) -> ParsedNode
     requires { ⌜ Free (now store) p 2 × (first < 65536) ⌝ }
-    ensures { λ r. ⌜ BuildsRow (now (store .entry)) (now (store .exit)) p first count (λ ns. inEnvironment env ns p) r ⌝ }
+    ensures { λ r. ⌜ BuildsMatrix (now (store .entry)) (now (store .exit)) p first count (λ ns. inEnvironment env ns p) r ⌝ }
 {
     let i = p.made;
     match env {

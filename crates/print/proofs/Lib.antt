@@ -3,3 +3,5 @@ pub mod ShownLaws
 pub mod PartsLaws
 pub mod RowLaws
 pub mod TreeLaws
+pub mod FineLaws
+pub mod MeasureLaws

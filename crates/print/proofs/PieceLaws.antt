@@ -1,7 +1,7 @@
 -- What is made of pieces is printed piece by piece.
 -- Assumes nothing.
 use mathlib.Core.Path.{_≡_}
-use mathlib.Core.Bool.{Bool}
+use mathlib.Core.Bool.{true}
 use mathlib.Core.List.{List, _++_}
 use Prim.Native.Nat.{ℕ}
 use lib.ListN.{length}
@@ -20,14 +20,14 @@ pub record Like {T U : Type 0} (There : T → Type 0) (text : T → List ℕ) (T
   pub of : (t : T) → There t → Same There′ text′ (text t)
 
 -- .. so what can be printed in the one way can be in the other, and what is printed in the other is in the one
-pub able-like : {T U : Type 0} {There : T → Type 0} {text : T → List ℕ} {There′ : U → Type 0} {text′ : U → List ℕ} {write : Bool} {o : List ℕ} {at : ℕ}
-    → Like There text There′ text′ → Printable There text write o at → Printable There′ text′ write o at
+pub able-like : {T U : Type 0} {There : T → Type 0} {text : T → List ℕ} {There′ : U → Type 0} {text′ : U → List ℕ} {o : List ℕ} {at : ℕ}
+    → Like There text There′ text′ → Printable There text o at → Printable There′ text′ o at
 able-like l p =
     let q = l .of (p .what) (p .there) in
     record { what = q .what; there = q .there; room = room-as (q .same) (p .room) }
 
-pub prints-like : {T U : Type 0} {There : T → Type 0} {text : T → List ℕ} {There′ : U → Type 0} {text′ : U → List ℕ} {write : Bool} {o o′ : List ℕ} {at r : ℕ}
-    → Like There text There′ text′ → Prints There′ text′ write o o′ at r → Prints There text write o o′ at r
+pub prints-like : {T U : Type 0} {There : T → Type 0} {text : T → List ℕ} {There′ : U → Type 0} {text′ : U → List ℕ} {o o′ : List ℕ} {at r : ℕ}
+    → Like There text There′ text′ → Prints There′ text′ o o′ at r → Prints There text o o′ at r
 prints-like l p = record {
   all = λ t h room.
       let q = l .of t h in
@@ -35,16 +35,16 @@ prints-like l p = record {
 }
 
 -- two things, one behind the other
-module _ {T U : Type 0} {There : T → Type 0} {There′ : U → Type 0} (text : T → List ℕ) (text′ : U → List ℕ) {write : Bool} {o : List ℕ} {at : ℕ} where
-  pub both-first : Printable (Both There There′) (λ t. text (t .0) ++ text′ (t .1)) write o at → Printable There text write o at
+module _ {T U : Type 0} {There : T → Type 0} {There′ : U → Type 0} (text : T → List ℕ) (text′ : U → List ℕ) {o : List ℕ} {at : ℕ} where
+  pub both-first : Printable (Both There There′) (λ t. text (t .0) ++ text′ (t .1)) o at → Printable There text o at
   both-first p = record {
     what = p .what .0;
     there = p .there .first;
     room = room-first (text (p .what .0)) (text′ (p .what .1)) (p .room);
   }
 
-  pub both-next : {o₁ : List ℕ} {r : ℕ} → Printable (Both There There′) (λ t. text (t .0) ++ text′ (t .1)) write o at
-      → Prints There text write o o₁ at r → Printable There′ text′ write o₁ r
+  pub both-next : {o₁ : List ℕ} {r : ℕ} → Printable (Both There There′) (λ t. text (t .0) ++ text′ (t .1)) o at
+      → Prints There text o o₁ at r → Printable There′ text′ o₁ r
   unfolding both-first
   both-next p q = record {
     what = p .what .1;
@@ -54,8 +54,8 @@ module _ {T U : Type 0} {There : T → Type 0} {There′ : U → Type 0} (text :
         (q .all (p .what .0) (p .there .first) (both-first p .room));
   }
 
-  pub both-prints : {o₁ o₂ : List ℕ} {r r₂ : ℕ} → Prints There text write o o₁ at r → Prints There′ text′ write o₁ o₂ r r₂
-      → Prints (Both There There′) (λ t. text (t .0) ++ text′ (t .1)) write o o₂ at r₂
+  pub both-prints : {o₁ o₂ : List ℕ} {r r₂ : ℕ} → Prints There text o o₁ at r → Prints There′ text′ o₁ o₂ r r₂
+      → Prints (Both There There′) (λ t. text (t .0) ++ text′ (t .1)) o o₂ at r₂
   both-prints p q = record {
     all = λ t h room.
         let xs = text (t .0) in
@@ -68,29 +68,29 @@ module _ {T U : Type 0} {There : T → Type 0} {There′ : U → Type 0} (text :
 pub record Between {T : Type 0} (text : T → List ℕ) (front : List ℕ) (inner : T → List ℕ) (back : List ℕ) : Type 0 where
   pub pieces : (t : T) → text t ≡ front ++ inner t ++ back
 
-module _ {T : Type 0} {text inner : T → List ℕ} {front back : List ℕ} {write : Bool} {o : List ℕ} {at : ℕ} (b : Between text front inner back) where
-  room-of : (t : T) → Room write o at (length (text t)) → Room write o at (length (front ++ inner t ++ back))
+module _ {T : Type 0} {text inner : T → List ℕ} {front back : List ℕ} {o : List ℕ} {at : ℕ} (b : Between text front inner back) where
+  room-of : (t : T) → Room true o at (length (text t)) → Room true o at (length (front ++ inner t ++ back))
   room-of t room = room-as (b .pieces t) room
 
-  pub between-front : {There : T → Type 0} → Printable There text write o at → Room write o at (length front)
+  pub between-front : {There : T → Type 0} → Printable There text o at → Room true o at (length front)
   between-front p = room-1 front (inner (p .what)) back (room-of (p .what) (p .room))
 
-  pub between-inner : {There : T → Type 0} {o₁ : List ℕ} {r₁ : ℕ} → Printable There text write o at → Puts write o o₁ at front r₁ → Printable There inner write o₁ r₁
+  pub between-inner : {There : T → Type 0} {o₁ : List ℕ} {r₁ : ℕ} → Printable There text o at → Puts true o o₁ at front r₁ → Printable There inner o₁ r₁
   between-inner p q = record {
     what = p .what;
     there = p .there;
     room = room-2 front (inner (p .what)) back (room-of (p .what) (p .room)) q;
   }
 
-  pub between-back : {There : T → Type 0} {o₁ o₂ : List ℕ} {r₁ r₂ : ℕ} → Printable There text write o at → Puts write o o₁ at front r₁ → Prints There inner write o₁ o₂ r₁ r₂
-      → Room write o₂ r₂ (length back)
+  pub between-back : {There : T → Type 0} {o₁ o₂ : List ℕ} {r₁ r₂ : ℕ} → Printable There text o at → Puts true o o₁ at front r₁ → Prints There inner o₁ o₂ r₁ r₂
+      → Room true o₂ r₂ (length back)
   unfolding between-inner
   between-back p q r =
       room-3 front (inner (p .what)) back (room-of (p .what) (p .room)) q
       (r .all (p .what) (p .there) (between-inner p q .room))
 
-  pub between-prints : {There : T → Type 0} {o₁ o₂ o₃ : List ℕ} {r₁ r₂ r₃ : ℕ} → Puts write o o₁ at front r₁ → Prints There inner write o₁ o₂ r₁ r₂ → Puts write o₂ o₃ r₂ back r₃
-      → Prints There text write o o₃ at r₃
+  pub between-prints : {There : T → Type 0} {o₁ o₂ o₃ : List ℕ} {r₁ r₂ r₃ : ℕ} → Puts true o o₁ at front r₁ → Prints There inner o₁ o₂ r₁ r₂ → Puts true o₂ o₃ r₂ back r₃
+      → Prints There text o o₃ at r₃
   between-prints p q r = record {
     all = λ t h room.
         let whole = room-of t room in

@@ -1,9 +1,9 @@
 -- Nodes one behind the other are printed one after the other.
 -- Assumes nothing.
 use mathlib.Core.Path.{_≡_, refl, _∙_}
-use mathlib.Core.Bool.{Bool}
+use mathlib.Core.Bool.{true}
 use mathlib.Core.List.{List, _++_}
-use Prim.Native.Nat.{ℕ, _-_, _<_}
+use Prim.Native.Nat.{ℕ, suc, _-_, _<_}
 use native.Mathlib.Omega.{arith}
 use Rattle.text.specs.Put.{Puts}
 use Rattle.text.proofs.PutLaws.{puts-nothing}
@@ -29,16 +29,15 @@ unfolding count shownAll
 split s st left i n place empty some h = let none = h .many in absurd (omega arith)
 split s st left i n place (t then ns) some h =
     let o = h .held in
-    let below = o .below in
     let near = h .near in
     let fits = h .fits in
-    let rest = low-all st (o .mid) (recordAt st i .next) i (h .last) (h .hi) ns (o .rest) in
+    let rest = low-all st (suc i) (recordAt st i .next) i (h .last) (h .hi) ns (o .rest) in
     record {
       what = (t, ns);
       there = record {
         first = record { lo = h .lo; held = o .here; inside = h .inside .0; near = omega arith; fits = omega arith };
         second = record {
-          lo = o .mid;
+          lo = suc i;
           prev = i;
           last = h .last;
           hi = h .hi;
@@ -56,32 +55,32 @@ like-first : {s st : List ℕ} {left i n : ℕ} (place : Place) → 0 < n → Li
 like-first {s} {st} {left} {i} {n} place some = record { of = λ ns h. split s st left i n place ns some h }
 
 -- no nodes are printed by doing nothing
-none : (s : List ℕ) (place : Place) (write : Bool) (o : List ℕ) (at : ℕ) (ns : Nodes) → count ns ≡ 0 → Puts write o o at (shownAll place s ns) at
+none : (s : List ℕ) (place : Place) (o : List ℕ) (at : ℕ) (ns : Nodes) → count ns ≡ 0 → Puts true o o at (shownAll place s ns) at
 unfolding count shownAll
-none s place write o at empty e = puts-nothing write o at
-none s place write o at (t then ns) e = absurd (omega arith)
+none s place o at empty e = puts-nothing true o at
+none s place o at (t then ns) e = absurd (omega arith)
 
 -- of the n nodes from a on, those before i are printed and `todo` are left: they can be printed, and once they are, all are
-pub record Going (s st : List ℕ) (left : ℕ) (place : Place) (write : Bool) (a n : ℕ) (o₀ : List ℕ) (at i todo : ℕ) (o : List ℕ) (end : ℕ) : Type 0 where
-  pub able : Printable (NodesAt s st left i todo) (shownAll place s) write o end
-  pub finish : (o′ : List ℕ) (r : ℕ) → Prints (NodesAt s st left i todo) (shownAll place s) write o o′ end r
-      → Prints (NodesAt s st left a n) (shownAll place s) write o₀ o′ at r
+pub record Going (s st : List ℕ) (left : ℕ) (place : Place) (a n : ℕ) (o₀ : List ℕ) (at i todo : ℕ) (o : List ℕ) (end : ℕ) : Type 0 where
+  pub able : Printable (NodesAt s st left i todo) (shownAll place s) o end
+  pub finish : (o′ : List ℕ) (r : ℕ) → Prints (NodesAt s st left i todo) (shownAll place s) o o′ end r
+      → Prints (NodesAt s st left a n) (shownAll place s) o₀ o′ at r
 
-module _ {s st : List ℕ} {left : ℕ} {place : Place} {write : Bool} {a n : ℕ} {o : List ℕ} {at : ℕ} where
-  pub going-start : Printable (NodesAt s st left a n) (shownAll place s) write o at → Going s st left place write a n o at a n o at
+module _ {s st : List ℕ} {left : ℕ} {place : Place} {a n : ℕ} {o : List ℕ} {at : ℕ} where
+  pub going-start : Printable (NodesAt s st left a n) (shownAll place s) o at → Going s st left place a n o at a n o at
   going-start p = record { able = p; finish = λ o′ r q. q }
 
-module _ {s st : List ℕ} {left : ℕ} {place : Place} {write : Bool} {a n : ℕ} {o₀ : List ℕ} {at i todo : ℕ} {o : List ℕ} {end : ℕ} (g : Going s st left place write a n o₀ at i todo o end) where
-  pub going-node : 0 < todo → Printable (TreeAt s st left i) (shown place s) write o end
+module _ {s st : List ℕ} {left : ℕ} {place : Place} {a n : ℕ} {o₀ : List ℕ} {at i todo : ℕ} {o : List ℕ} {end : ℕ} (g : Going s st left place a n o₀ at i todo o end) where
+  pub going-node : 0 < todo → Printable (TreeAt s st left i) (shown place s) o end
   going-node some = both-first (shown place s) (shownAll place s) (able-like (like-first place some) (g .able))
 
-  pub going-next : {o₁ : List ℕ} {r₁ : ℕ} → 0 < todo → Prints (TreeAt s st left i) (shown place s) write o o₁ end r₁
-      → Going s st left place write a n o₀ at (recordAt st i .next) (todo - 1) o₁ r₁
+  pub going-next : {o₁ : List ℕ} {r₁ : ℕ} → 0 < todo → Prints (TreeAt s st left i) (shown place s) o o₁ end r₁
+      → Going s st left place a n o₀ at (recordAt st i .next) (todo - 1) o₁ r₁
   going-next some p = record {
     able = both-next (shown place s) (shownAll place s) (able-like (like-first place some) (g .able)) p;
     finish = λ o′ r q.
         g .finish o′ r (prints-like (like-first place some) (both-prints (shown place s) (shownAll place s) p q));
   }
 
-  pub going-done : todo ≡ 0 → Prints (NodesAt s st left a n) (shownAll place s) write o₀ o at end
-  going-done e = g .finish o end (record { all = λ ns h room. none s place write o end ns (h .many ∙ e) })
+  pub going-done : todo ≡ 0 → Prints (NodesAt s st left a n) (shownAll place s) o₀ o at end
+  going-done e = g .finish o end (record { all = λ ns h room. none s place o end ns (h .many ∙ e) })

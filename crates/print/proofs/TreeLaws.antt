@@ -4,13 +4,15 @@ use mathlib.Core.Path.{_≡_, refl, sym, ap, _∙_, subst}
 use mathlib.Core.List.{List}
 use Prim.Native.Nat.{ℕ, _+_, _-_, _*_, _≤_, _<_}
 use native.Mathlib.Omega.{arith}
+use native.Mathlib.Nat.{le-refl, le-trans}
 use lib.ListN.{length}
 use Rattle.ast.specs.declared.Record.{Record}
 use Rattle.ast.specs.declared.Shape.{Shape}
 use Rattle.ast.specs.Shape.{fieldsOf, shapeOf}
 use Rattle.ast.specs.Store.{recordAt}
 use Rattle.ast.specs.Tree.{Node, leaf, one, two, three, row, matrix, Nodes}
-use Rattle.ast.specs.Held.{Part, Rowed, count, holds, holdsAll}
+use Rattle.ast.specs.Held.{Rowed, count, holds, holdsAll, FillsTree}
+use Rattle.ast.proofs.HeldLaws.{roof-below, beside-low, tree-low, beside-left, turned-round}
 use Rattle.ast.proofs.KindLaws.{kindOf, shape-held}
 use Rattle.ast.specs.Inside.{LeafInside, TreeInside, AllInside}
 use Rattle.markup.specs.Print.{slash, cell, atPlace, print}
@@ -52,20 +54,20 @@ Stood s st left i place t k =
     Same (ContentAt s st (left - 1) (recordAt st i) k) (contentText s place k) (shown place s t)
 
 -- a part stands where the root's record says, below `left - 1`
-part-at : {s st : List ℕ} {left i j x : ℕ} (lo : ℕ) (t : Node) → i < left → i * 24 + 24 ≤ length st → j ≡ x → Part (λ y. holds st lo y t) i x
+part-at : {s st : List ℕ} {left i j x : ℕ} (lo : ℕ) (t : Node) → i < left → i * 24 + 24 ≤ length st → j ≡ x → {u : ℕ} → u ≤ i → FillsTree st x t lo u
     → TreeInside (length s) t → TreeAt s st (left - 1) j t
-part-at lo t near fits e p inside =
-    let b = p .below in
+part-at lo t near fits e le p inside =
+    let b = p .ends in
     record { lo = lo; held = rw e (p .here); inside = inside; near = omega arith; fits = omega arith }
 
 -- .. and so do the nodes of a row
-row-at : {s st : List ℕ} {left i : ℕ} {k : Shape} (lo : ℕ) (ns : Nodes) → i < left → i * 24 + 24 ≤ length st → Rowed st (λ f p l. holdsAll st lo f p l i ns) i k
+row-at : {s st : List ℕ} {left i : ℕ} {k : Shape} (lo : ℕ) (ns : Nodes) → i < left → i * 24 + 24 ≤ length st → {hi : ℕ} → hi ≤ i → Rowed st (λ f p l. holdsAll st lo f p l hi ns) i k
     → AllInside (length s) ns → NodesAt s st (left - 1) (recordAt st i .a) (count ns) ns
-row-at {i} lo ns near fits o inside = record {
+row-at {i} lo ns near fits {hi} le o inside = record {
   lo = lo;
   prev = o .p;
   last = o .l;
-  hi = i;
+  hi = hi;
   held = rw (o .stands .a) (o .nodes);
   many = refl;
   inside = inside;
@@ -78,45 +80,45 @@ stood : (s st : List ℕ) (left i : ℕ) (place : Place) (t : Node) → TreeAt s
 unfolding shown atPlace slash cell
 stood s st left i place (leaf l) h = record { what = tt; there = h .inside; same = refl }
 stood s st left i place (one k a) h =
-    let o = h .held .1 in
+    let o = h .held in
     record {
       what = a;
-      there = part-at (h .lo) a (h .near) (h .fits) (o .stands .a) (o .first) (h .inside);
+      there = part-at (h .lo) a (h .near) (h .fits) (o .stands .a) (le-refl i) (o .part) (h .inside);
       same = by-place (λ p. shown p s (one k a) ≡ print s (one k a)) place refl refl refl;
     }
 stood s st left i place (two k a b) h =
-    let o = h .held .1 in
+    let o = h .held in
     record {
       what = (a, b);
       there = record {
-        first = part-at (h .lo) a (h .near) (h .fits) (o .stands .a) (o .first) (h .inside .0);
-        second = part-at (h .lo) b (h .near) (h .fits) (o .stands .b) (o .second) (h .inside .1);
+        first = beside-left (λ l u q le. part-at l a (h .near) (h .fits) (o .stands .a) le q (h .inside .0)) (λ l u q. tree-low st (o .y) l u b q) (o .parts);
+        second = beside-left (λ l u q le. part-at l b (h .near) (h .fits) (o .stands .b) le q (h .inside .1)) (λ l u q. tree-low st (o .x) l u a q) (turned-round (o .parts));
       };
       same = by-place (λ p. shown p s (two k a b) ≡ print s (two k a b)) place refl refl refl;
     }
 stood s st left i place (three k a b c) h =
-    let o = h .held .1 in
+    let o = h .held in
     record {
       what = (a, (b, c));
       there = record {
-        first = part-at (h .lo) a (h .near) (h .fits) (o .stands .a) (o .first) (h .inside .0);
-        second = record {
-          first = part-at (h .lo) b (h .near) (h .fits) (o .stands .b) (o .second) (h .inside .1);
-          second = part-at (h .lo) c (h .near) (h .fits) (o .stands .c) (o .third) (h .inside .2);
-        };
+        first = beside-left (λ l u q le. part-at l a (h .near) (h .fits) (o .stands .a) le q (h .inside .0)) (λ l u q. beside-low (λ m v r. tree-low st (o .y) m v b r) (λ m v r. tree-low st (o .z) m v c r) q) (o .parts);
+        second = beside-left (λ l u q le. record {
+          first = beside-left (λ m v r le′. part-at m b (h .near) (h .fits) (o .stands .b) (le-trans le′ le) r (h .inside .1)) (λ m v r. tree-low st (o .z) m v c r) q;
+          second = beside-left (λ m v r le′. part-at m c (h .near) (h .fits) (o .stands .c) (le-trans le′ le) r (h .inside .2)) (λ m v r. tree-low st (o .y) m v b r) (turned-round q);
+        }) (λ l u q. tree-low st (o .x) l u a q) (turned-round (o .parts));
       };
       same = by-place (λ p. shown p s (three k a b c) ≡ print s (three k a b c)) place refl refl refl;
     }
 stood s st left i place (row ns) h =
     record {
       what = ns;
-      there = row-at (h .lo) ns (h .near) (h .fits) (h .held .1) (h .inside);
+      there = row-at (h .lo) ns (h .near) (h .fits) (le-refl i) (h .held) (h .inside);
       same = by-place (λ p. shown p s (row ns) ≡ print s (row ns)) place refl refl refl;
     }
 stood s st left i place (matrix align ns) h =
     record {
       what = ns;
-      there = row-at (h .lo) ns (h .near) (h .fits) (h .held .1) (h .inside);
+      there = row-at (h .lo) ns (h .near) (h .fits) (roof-below st (h .lo) (h .held .hi) i (h .held .roof)) (h .held .rowed) (h .inside);
       same = by-place (λ p. shown p s (matrix align ns) ≡ print s (matrix align ns)) place refl refl refl;
     }
 

@@ -1,7 +1,7 @@
 -- What is printed at a place, what stands at an index of the store, and what it is to print it.
 -- Assumes nothing.
 use mathlib.Core.Path.{_≡_}
-use mathlib.Core.Bool.{Bool}
+use mathlib.Core.Bool.{true}
 use mathlib.Core.List.{List, [], _++_}
 use Prim.Native.Nat.{ℕ, _+_, _*_, _≤_, _<_}
 use lib.ListN.{length}
@@ -62,11 +62,11 @@ pub record NodesAt (s st : List ℕ) (left i n : ℕ) (ns : Nodes) : Type 0 wher
   pub fits : hi * 24 ≤ length st
 
 -- there is room for the text of something that stands there
-pub record Printable {T : Type 0} (There : T → Type 0) (text : T → List ℕ) (write : Bool) (o : List ℕ) (at : ℕ) : Type 0 where
+pub record Printable {T : Type 0} (There : T → Type 0) (text : T → List ℕ) (o : List ℕ) (at : ℕ) : Type 0 where
   pub what : T
   pub there : There what
-  pub room : Room write o at (length (text what))
+  pub room : Room true o at (length (text what))
 
 -- of whatever stands there the text is put
-pub record Prints {T : Type 0} (There : T → Type 0) (text : T → List ℕ) (write : Bool) (o o′ : List ℕ) (at r : ℕ) : Type 0 where
-  pub all : (t : T) → There t → Room write o at (length (text t)) → Puts write o o′ at (text t) r
+pub record Prints {T : Type 0} (There : T → Type 0) (text : T → List ℕ) (o o′ : List ℕ) (at r : ℕ) : Type 0 where
+  pub all : (t : T) → There t → Room true o at (length (text t)) → Puts true o o′ at (text t) r

@@ -1,5 +1,6 @@
-// The printer: a tree of the store is printed by recursion over its records. What is printed is counted or, where `write` is true,
-// written.
+// The printer: a tree of the store is printed by recursion over its records; what it prints was measured before.
+pub mod measure;
+
 use ast::One;
 use ast::Shape;
 use ast::Three;
@@ -20,6 +21,7 @@ use markup::leaf::put_leaf;
 use text::put::put;
 use token::table::Table;
 ghost use mathlib.Core.Path.{_≡_};
+ghost use mathlib.Core.Bool.{true};
 ghost use mathlib.Core.List.{_++_};
 ghost use lib.ListN.{length};
 ghost use Rattle.text.specs.Text.{bytes};
@@ -45,13 +47,13 @@ fn place_of(k: One) -> Place
 }
 
 // Puts what stands before the nodes of a matrix.
-fn put_front_matrix(align: ColumnAlign, out: &mut [u8], at: usize, write: bool) -> usize
-    requires { ⌜ Room write (now out) at (length (bytes "<mtable" ++ bytes (columnAlign align) ++ bytes "><mtr><mtd>")) ⌝ }
-    ensures { λ r. ⌜ Puts write (now (out .entry)) (now (out .exit)) at (bytes "<mtable" ++ bytes (columnAlign align) ++ bytes "><mtr><mtd>") r ⌝ }
+fn put_front_matrix(align: ColumnAlign, out: &mut [u8], at: usize) -> usize
+    requires { ⌜ Room true (now out) at (length (bytes "<mtable" ++ bytes (columnAlign align) ++ bytes "><mtr><mtd>")) ⌝ }
+    ensures { λ r. ⌜ Puts true (now (out .entry)) (now (out .exit)) at (bytes "<mtable" ++ bytes (columnAlign align) ++ bytes "><mtr><mtd>") r ⌝ }
 {
-    let name = put(b"<mtable", out, at, write);
-    let end = put_column_align(align, out, name, write);
-    put(b"><mtr><mtd>", out, end, write)
+    let name = put(b"<mtable", out, at, true);
+    let end = put_column_align(align, out, name, true);
+    put(b"><mtr><mtd>", out, end, true)
 }
 
 // Prints the node at an index below `left`. Its parts stand before it, so they are below `left - 1`.
@@ -63,31 +65,19 @@ fn print_node(
     left: usize,
     out: &mut [u8],
     at: usize,
-    write: bool,
     table: &Table,
 ) -> usize
-    requires { ⌜ Printable (TreeAt (now s) (now store) left i) (shown place (now s)) write (now out) at × (now table ≡ rows) ⌝ }
-    ensures { λ r. ⌜ Prints (TreeAt (now (s .entry)) (now (store .entry)) left i) (shown place (now (s .entry))) write (now (out .entry)) (now (out .exit)) at r ⌝ }
+    requires { ⌜ Printable (TreeAt (now s) (now store) left i) (shown place (now s)) (now out) at × (now table ≡ rows) ⌝ }
+    ensures { λ r. ⌜ Prints (TreeAt (now (s .entry)) (now (store .entry)) left i) (shown place (now (s .entry))) (now (out .entry)) (now (out .exit)) at r ⌝ }
 {
     let r = get_record(store, i);
     match shape_of(r) {
-        Shape::Leaf(l) => put_leaf(place, s, l, out, at, write, table),
-        Shape::One(k) => print_one(k, s, store, r.a, left - 1, out, at, write, table),
-        Shape::Two(k) => print_two(k, s, store, r.a, r.b, left - 1, out, at, write, table),
-        Shape::Three(k) => print_three(k, s, store, r.a, r.b, r.c, left - 1, out, at, write, table),
-        Shape::Row(n) => print_row(s, store, r.a, n, left - 1, out, at, write, table),
-        Shape::Matrix(align, n) => print_matrix(
-            align,
-            s,
-            store,
-            r.a,
-            n,
-            left - 1,
-            out,
-            at,
-            write,
-            table,
-        ),
+        Shape::Leaf(l) => put_leaf(place, s, l, out, at, true, table),
+        Shape::One(k) => print_one(k, s, store, r.a, left - 1, out, at, table),
+        Shape::Two(k) => print_two(k, s, store, r.a, r.b, left - 1, out, at, table),
+        Shape::Three(k) => print_three(k, s, store, r.a, r.b, r.c, left - 1, out, at, table),
+        Shape::Row(n) => print_row(s, store, r.a, n, left - 1, out, at, table),
+        Shape::Matrix(align, n) => print_matrix(align, s, store, r.a, n, left - 1, out, at, table),
     }
 }
 
@@ -100,15 +90,14 @@ fn print_one(
     left: usize,
     out: &mut [u8],
     at: usize,
-    write: bool,
     table: &Table,
 ) -> usize
-    requires { ⌜ Printable (TreeAt (now s) (now store) left a) (λ t. print (now s) (Node.one k t)) write (now out) at × (now table ≡ rows) ⌝ }
-    ensures { λ r. ⌜ Prints (TreeAt (now (s .entry)) (now (store .entry)) left a) (λ t. print (now (s .entry)) (Node.one k t)) write (now (out .entry)) (now (out .exit)) at r ⌝ }
+    requires { ⌜ Printable (TreeAt (now s) (now store) left a) (λ t. print (now s) (Node.one k t)) (now out) at × (now table ≡ rows) ⌝ }
+    ensures { λ r. ⌜ Prints (TreeAt (now (s .entry)) (now (store .entry)) left a) (λ t. print (now (s .entry)) (Node.one k t)) (now (out .entry)) (now (out .exit)) at r ⌝ }
 {
-    let first = put_front_one(k, out, at, write);
-    let end = print_node(place_of(k), s, store, a, left, out, first, write, table);
-    put_back_one(k, out, end, write)
+    let first = put_front_one(k, out, at, true);
+    let end = print_node(place_of(k), s, store, a, left, out, first, table);
+    put_back_one(k, out, end, true)
 }
 
 // Prints a node with two parts, at the indices a and b.
@@ -121,16 +110,15 @@ fn print_two(
     left: usize,
     out: &mut [u8],
     at: usize,
-    write: bool,
     table: &Table,
 ) -> usize
-    requires { ⌜ Printable (TwoAt (now s) (now store) left a b) (λ t. print (now s) (Node.two k (t .0) (t .1))) write (now out) at × (now table ≡ rows) ⌝ }
-    ensures { λ r. ⌜ Prints (TwoAt (now (s .entry)) (now (store .entry)) left a b) (λ t. print (now (s .entry)) (Node.two k (t .0) (t .1))) write (now (out .entry)) (now (out .exit)) at r ⌝ }
+    requires { ⌜ Printable (TwoAt (now s) (now store) left a b) (λ t. print (now s) (Node.two k (t .0) (t .1))) (now out) at × (now table ≡ rows) ⌝ }
+    ensures { λ r. ⌜ Prints (TwoAt (now (s .entry)) (now (store .entry)) left a b) (λ t. print (now (s .entry)) (Node.two k (t .0) (t .1))) (now (out .entry)) (now (out .exit)) at r ⌝ }
 {
-    let first = put_front_two(k, out, at, write);
-    let second = print_node(Place::Plain, s, store, a, left, out, first, write, table);
-    let end = print_node(Place::Plain, s, store, b, left, out, second, write, table);
-    put_back_two(k, out, end, write)
+    let first = put_front_two(k, out, at, true);
+    let second = print_node(Place::Plain, s, store, a, left, out, first, table);
+    let end = print_node(Place::Plain, s, store, b, left, out, second, table);
+    put_back_two(k, out, end, true)
 }
 
 // Prints a node with three parts, at the indices a, b and c.
@@ -144,17 +132,16 @@ fn print_three(
     left: usize,
     out: &mut [u8],
     at: usize,
-    write: bool,
     table: &Table,
 ) -> usize
-    requires { ⌜ Printable (ThreeAt (now s) (now store) left a b c) (λ t. print (now s) (Node.three k (t .0) (t .1 .0) (t .1 .1))) write (now out) at × (now table ≡ rows) ⌝ }
-    ensures { λ r. ⌜ Prints (ThreeAt (now (s .entry)) (now (store .entry)) left a b c) (λ t. print (now (s .entry)) (Node.three k (t .0) (t .1 .0) (t .1 .1))) write (now (out .entry)) (now (out .exit)) at r ⌝ }
+    requires { ⌜ Printable (ThreeAt (now s) (now store) left a b c) (λ t. print (now s) (Node.three k (t .0) (t .1 .0) (t .1 .1))) (now out) at × (now table ≡ rows) ⌝ }
+    ensures { λ r. ⌜ Prints (ThreeAt (now (s .entry)) (now (store .entry)) left a b c) (λ t. print (now (s .entry)) (Node.three k (t .0) (t .1 .0) (t .1 .1))) (now (out .entry)) (now (out .exit)) at r ⌝ }
 {
-    let first = put_front_three(k, out, at, write);
-    let second = print_node(Place::Plain, s, store, a, left, out, first, write, table);
-    let third = print_node(Place::Plain, s, store, b, left, out, second, write, table);
-    let end = print_node(Place::Plain, s, store, c, left, out, third, write, table);
-    put_back_three(k, out, end, write)
+    let first = put_front_three(k, out, at, true);
+    let second = print_node(Place::Plain, s, store, a, left, out, first, table);
+    let third = print_node(Place::Plain, s, store, b, left, out, second, table);
+    let end = print_node(Place::Plain, s, store, c, left, out, third, table);
+    put_back_three(k, out, end, true)
 }
 
 // Prints a row of n nodes, the first of them at the index a.
@@ -166,15 +153,14 @@ fn print_row(
     left: usize,
     out: &mut [u8],
     at: usize,
-    write: bool,
     table: &Table,
 ) -> usize
-    requires { ⌜ Printable (NodesAt (now s) (now store) left a n) (λ ns. print (now s) (Node.row ns)) write (now out) at × (now table ≡ rows) ⌝ }
-    ensures { λ r. ⌜ Prints (NodesAt (now (s .entry)) (now (store .entry)) left a n) (λ ns. print (now (s .entry)) (Node.row ns)) write (now (out .entry)) (now (out .exit)) at r ⌝ }
+    requires { ⌜ Printable (NodesAt (now s) (now store) left a n) (λ ns. print (now s) (Node.row ns)) (now out) at × (now table ≡ rows) ⌝ }
+    ensures { λ r. ⌜ Prints (NodesAt (now (s .entry)) (now (store .entry)) left a n) (λ ns. print (now (s .entry)) (Node.row ns)) (now (out .entry)) (now (out .exit)) at r ⌝ }
 {
-    let first = put(b"<mrow>", out, at, write);
-    let end = print_nodes(Place::Plain, s, store, a, n, left, out, first, write, table);
-    put(b"</mrow>", out, end, write)
+    let first = put(b"<mrow>", out, at, true);
+    let end = print_nodes(Place::Plain, s, store, a, n, left, out, first, table);
+    put(b"</mrow>", out, end, true)
 }
 
 // Prints a matrix of n nodes, the first of them at the index a.
@@ -187,15 +173,14 @@ fn print_matrix(
     left: usize,
     out: &mut [u8],
     at: usize,
-    write: bool,
     table: &Table,
 ) -> usize
-    requires { ⌜ Printable (NodesAt (now s) (now store) left a n) (λ ns. print (now s) (Node.matrix align ns)) write (now out) at × (now table ≡ rows) ⌝ }
-    ensures { λ r. ⌜ Prints (NodesAt (now (s .entry)) (now (store .entry)) left a n) (λ ns. print (now (s .entry)) (Node.matrix align ns)) write (now (out .entry)) (now (out .exit)) at r ⌝ }
+    requires { ⌜ Printable (NodesAt (now s) (now store) left a n) (λ ns. print (now s) (Node.matrix align ns)) (now out) at × (now table ≡ rows) ⌝ }
+    ensures { λ r. ⌜ Prints (NodesAt (now (s .entry)) (now (store .entry)) left a n) (λ ns. print (now (s .entry)) (Node.matrix align ns)) (now (out .entry)) (now (out .exit)) at r ⌝ }
 {
-    let first = put_front_matrix(align, out, at, write);
-    let end = print_nodes(Place::Cell, s, store, a, n, left, out, first, write, table);
-    put(b"</mtd></mtr></mtable>", out, end, write)
+    let first = put_front_matrix(align, out, at);
+    let end = print_nodes(Place::Cell, s, store, a, n, left, out, first, table);
+    put(b"</mtd></mtr></mtable>", out, end, true)
 }
 
 // Prints n nodes, each the next of the one before, from the index a on; all are below `left`.
@@ -208,17 +193,16 @@ pub fn print_nodes(
     left: usize,
     out: &mut [u8],
     at: usize,
-    write: bool,
     table: &Table,
 ) -> usize
-    requires { ⌜ Printable (NodesAt (now s) (now store) left a n) (shownAll place (now s)) write (now out) at × (now table ≡ rows) ⌝ }
-    ensures { λ r. ⌜ Prints (NodesAt (now (s .entry)) (now (store .entry)) left a n) (shownAll place (now (s .entry))) write (now (out .entry)) (now (out .exit)) at r ⌝ }
+    requires { ⌜ Printable (NodesAt (now s) (now store) left a n) (shownAll place (now s)) (now out) at × (now table ≡ rows) ⌝ }
+    ensures { λ r. ⌜ Prints (NodesAt (now (s .entry)) (now (store .entry)) left a n) (shownAll place (now (s .entry))) (now (out .entry)) (now (out .exit)) at r ⌝ }
 {
     let mut i = a;
     let mut todo = n;
     let mut end = at;
     while 0 < todo {
-        end = print_node(place, s, store, i, left, out, end, write, table);
+        end = print_node(place, s, store, i, left, out, end, table);
         i = get_next(store, i);
         todo -= 1;
     }

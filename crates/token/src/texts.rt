@@ -94,3 +94,25 @@ pub fn put_width(n: u32, out: &mut [u8], at: usize, write: bool) -> usize
         _ => at,
     }
 }
+
+// The length of the fixed text of a number.
+pub fn text_len(n: u32) -> usize
+    ensures { λ r. ⌜ r ≡ length (bytes (textOf n)) ⌝ }
+{
+    (packed_text(n) / 0x100_0000_0000_0000) as usize
+}
+
+// The length of what is printed for the width of a number.
+pub fn width_len(n: u32) -> usize
+    ensures { λ r. ⌜ r ≡ length (bytes (widthOf n)) ⌝ }
+{
+    match n {
+        0 => 11,
+        1 => 10,
+        2 => 10,
+        3 => 9,
+        4 => 1,
+        5 => 1,
+        _ => 0,
+    }
+}

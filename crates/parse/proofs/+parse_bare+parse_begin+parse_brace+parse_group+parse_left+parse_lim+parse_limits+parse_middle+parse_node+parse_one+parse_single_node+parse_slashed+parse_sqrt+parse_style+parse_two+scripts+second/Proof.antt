@@ -15,7 +15,7 @@ use Rattle.parser.specs.Marks.{scriptOf, otherLimit}
 use Rattle.parser.proofs.BodyLaws.{node-keeps, single-keeps}
 use Rattle.parser.proofs.MoveLaws.{text-sound}
 use Rattle.parse.proofs.RoomLaws.{may-next, starts-ready, ready-starts, ready-ends, ends-next, starts-next, ends-mark, ends-script, starts-text, ends-free, starts-free, node-ends, group-ends, ready-node, ready-free, prime-free, wide-3, next-made, text-made, bare-keeps}
-use Rattle.parse.proofs.SeqLaws.{after-none, only, after-one, first-below, after-two, after-two-swapped, old-below, beside-one, beside-two, as-two, left-alone, after-prime, after-set, bare-as}
+use Rattle.parse.proofs.SeqLaws.{below, after-none, plain-leaf, leaf-before, only, after-one, first-below, after-two, after-behind, after-two-swapped, old-below, beside-one, beside-two, as-two, left-alone, after-prime, after-set, bare-as}
 use Rattle.parse.proofs.LeafLaws.{bare-leaf, alone-is, alone-script, leaf-placed}
 use Rattle.parse.proofs.LoopLaws.{loops-none, loops-ready, loops-few, loops-free, more-ends, more-append, more-less}
 use Rattle.parse.proofs.GroupLaws.{GroupLoop, group-end, group-refused, group-closed, group-turns}
@@ -747,7 +747,7 @@ parse-bare-same-length-22 t c = search needs
 
 parse-bare-returns-22 : (t : ℕ) → parse-bare-lts.Need-returns-22 (parse-bare-calls t) (parse-bare-at t) parse-bare.Post
 parse-bare-returns-22 t c =
-    after-none _ _ ((c .before .before .before .before .before .before .before .before .before .args) .p) ((c .before .before .before .before .before .before .before .before .before .args) .p) _ _ ((c .before .before .make-leaf) .result) refl (rw ((c .before .before .before .leaf-of) .ensures) at ((c .before .before .make-leaf) .ensures)) (bare-leaf (λ q. parseNode ((c .before .before .before .before .before .before .before .before .before .args) .depth) ((c .before .before .before .before .before .before .before .before .before .args) .s .now) q) (λ q. parseSingleNode ((c .before .before .before .before .before .before .before .before .before .args) .depth) ((c .before .before .before .before .before .before .before .before .before .args) .s .now) q) ((c .before .before .before .before .before .before .before .before .before .args) .s .now) (((c .before .before .before .before .before .before .before .before .before .args) .p) .cur .token) ((c .before .before .before .before .before .before .before .before .before .args) .p) ((c .before .before .before .before .before .match) .keys22))
+    after-none _ _ ((c .before .before .before .before .before .before .before .before .before .args) .p) ((c .before .before .before .before .before .before .before .before .before .args) .p) _ _ ((c .before .before .make-leaf) .result) refl (λ lo e. (rw ((c .before .before .before .leaf-of) .ensures) at ((c .before .before .make-leaf) .ensures)) lo (leaf-before _ lo _ (((c .before .before .before .before .before .before .before .before .before .args) .p) .cur .token) e)) (bare-leaf (λ q. parseNode ((c .before .before .before .before .before .before .before .before .before .args) .depth) ((c .before .before .before .before .before .before .before .before .before .args) .s .now) q) (λ q. parseSingleNode ((c .before .before .before .before .before .before .before .before .before .args) .depth) ((c .before .before .before .before .before .before .before .before .before .args) .s .now) q) ((c .before .before .before .before .before .before .before .before .before .args) .s .now) (((c .before .before .before .before .before .before .before .before .before .args) .p) .cur .token) ((c .before .before .before .before .before .before .before .before .before .args) .p) ((c .before .before .before .before .before .match) .keys22))
 
 parse-begin-next-token-requires : (t : ℕ) → parse-begin-lts.Need-next-token-requires (parse-begin-calls t) (parse-begin-at t) parse-begin.Post
 parse-begin-next-token-requires t c κs =
@@ -814,7 +814,7 @@ parse-begin-make-environment-requires : (t : ℕ) → parse-begin-lts.Need-make-
 unfolding markNumber
 parse-begin-make-environment-requires t c κs =
     let g = rw ((c .before .before .before .before .before .before .before .content) .given .1) at ((c .before .before .before .before .before .before .before .before .before .before .before .parse-group) .ensures) in
-    let b = g .below in
+    let b = below g in
     let n = (next-made ((c .before .before .before .before .before .before .before .before .before .before .before .before .before .before .before .before .before .before .args) .s .now) _ ((c .before .before .before .before .before .next-token2) .ensures)) in
     let k = (text-made ((c .before .before .before .before .before .before .before .before .before .before .before .before .before .before .before .before .before .before .args) .s .now) _ ((c .before .before .before .before .parse-text2) .ensures)) in
     (starts-free 2 (starts-text (ends-next (group-ends ((c .before .before .before .before .before .before .before .before .before .before .before .parse-group) .kept .1 .0) Mark.End (starts-text (ends-next (ready-ends ((c .before .before .before .before .before .before .before .before .before .before .before .before .before .before .before .before .before .before .pre) .1 .0) ((c .before .before .before .before .before .before .before .before .before .before .before .before .before .before .before .before .before .before .pre) .1 .1)) ((c .before .before .before .before .before .before .before .before .before .before .before .before .before .before .before .next-token) .ensures)) ((c .before .before .before .before .before .before .before .before .before .before .before .before .before .before .parse-text) .ensures)) (node-keeps ((c .before .before .before .before .before .before .before .before .before .before .before .before .before .before .before .before .before .before .args) .depth) ((c .before .before .before .before .before .before .before .before .before .before .before .before .before .before .before .before .before .before .args) .s .now)) (lit≤ tt) g) ((c .before .before .before .before .before .next-token2) .ensures)) ((c .before .before .before .before .parse-text2) .ensures)) (omega arith), omega arith)
@@ -857,7 +857,7 @@ parse-brace-peek-token-is-requires t c κs = search needs
 parse-brace-make-leaf-second-requires : (t : ℕ) → parse-brace-lts.Need-make-leaf-second-requires (parse-brace-calls t) (parse-brace-at t) parse-brace.Post
 parse-brace-make-leaf-second-requires t c κs =
     let g = rw ((c .before .before .before .before .target) .given .1) at ((c .before .before .before .before .before .before .before .before .parse-single-node) .ensures) in
-    (ends-free 2 (node-ends ((c .before .before .before .before .before .before .before .before .parse-single-node) .kept .1 .0) 5 (ends-next (ready-ends ((c .before .before .before .before .before .before .before .before .before .before .before .before .before .pre) .1 .0) ((c .before .before .before .before .before .before .before .before .before .before .before .before .before .pre) .1 .1)) ((c .before .before .before .before .before .before .before .before .before .before .next-token) .ensures)) (omega arith) (single-keeps ((c .before .before .before .before .before .before .before .before .before .before .before .before .before .args) .depth) ((c .before .before .before .before .before .before .before .before .before .before .before .before .before .args) .s .now)) g) (omega arith), tt, g .below)
+    (ends-free 2 (node-ends ((c .before .before .before .before .before .before .before .before .parse-single-node) .kept .1 .0) 5 (ends-next (ready-ends ((c .before .before .before .before .before .before .before .before .before .before .before .before .before .pre) .1 .0) ((c .before .before .before .before .before .before .before .before .before .before .before .before .before .pre) .1 .1)) ((c .before .before .before .before .before .before .before .before .before .before .next-token) .ensures)) (omega arith) (single-keeps ((c .before .before .before .before .before .before .before .before .before .before .before .before .before .args) .depth) ((c .before .before .before .before .before .before .before .before .before .before .before .before .before .args) .s .now)) g) (omega arith), tt, below g, refl)
 
 parse-brace-same-length : (t : ℕ) → parse-brace-lts.Need-same-length (parse-brace-calls t) (parse-brace-at t) parse-brace.Post
 parse-brace-same-length t c = search needs
@@ -896,7 +896,7 @@ parse-brace-make-explained-requires : (t : ℕ) → parse-brace-lts.Need-make-ex
 parse-brace-make-explained-requires t c κs =
     let g = rw ((c .before .before .before .before .before .before .before .before .before .before .before .before .before .target) .given .1) at ((c .before .before .before .before .before .before .before .before .before .before .before .before .before .before .before .before .before .parse-single-node) .ensures) in
     let h = rw ((c .before .before .expl) .given .1) at ((c .before .before .before .before .before .before .parse-single-node2) .ensures) in
-    (ends-free 3 (node-ends ((c .before .before .before .before .before .before .parse-single-node2) .kept .1 .0) 6 (ends-mark ((c .before .before .before .before .before .before .before .before .before .before .before .before .before .before .before .before .before .before .before .before .before .before .args) .mark) (node-ends ((c .before .before .before .before .before .before .before .before .before .before .before .before .before .before .before .before .before .parse-single-node) .kept .1 .0) 5 (ends-next (ready-ends ((c .before .before .before .before .before .before .before .before .before .before .before .before .before .before .before .before .before .before .before .before .before .before .pre) .1 .0) ((c .before .before .before .before .before .before .before .before .before .before .before .before .before .before .before .before .before .before .before .before .before .before .pre) .1 .1)) ((c .before .before .before .before .before .before .before .before .before .before .before .before .before .before .before .before .before .before .before .next-token) .ensures)) (omega arith) (single-keeps ((c .before .before .before .before .before .before .before .before .before .before .before .before .before .before .before .before .before .before .before .before .before .before .args) .depth) ((c .before .before .before .before .before .before .before .before .before .before .before .before .before .before .before .before .before .before .before .before .before .before .args) .s .now)) g) (sym ((c .before .before .before .before .before .before .before .before .before .before .before .peek-token-is) .ensures) ∙ not-false _ ((c .before .before .before .before .before .before .before .before .before .before .if1) .left)) ((c .before .before .before .before .before .before .before .before .before .before .before .before .before .before .before .before .before .before .before .before .before .before .pre) .1 .2) ((c .before .before .before .before .before .before .before .before .before .next-token2) .ensures) ((c .before .before .before .before .before .before .before .before .next-token3) .ensures)) (omega arith) (single-keeps ((c .before .before .before .before .before .before .before .before .before .before .before .before .before .before .before .before .before .before .before .before .before .before .args) .depth) ((c .before .before .before .before .before .before .before .before .before .before .before .before .before .before .before .before .before .before .before .before .before .before .args) .s .now)) h) (omega arith), first-below _ _ ((c .before .before .before .before .before .before .before .before .before .before .before .before .before .before .before .before .before .before .before .before .before .before .args) .p) _ _ _ _ (next-made ((c .before .before .before .before .before .before .before .before .before .before .before .before .before .before .before .before .before .before .before .before .before .before .args) .s .now) ((c .before .before .before .before .before .before .before .before .before .before .before .before .before .before .before .before .before .before .before .before .before .before .args) .p) ((c .before .before .before .before .before .before .before .before .before .before .before .before .before .before .before .before .before .before .before .next-token) .ensures)) g _ _ _ _ _ ((next-made ((c .before .before .before .before .before .before .before .before .before .before .before .before .before .before .before .before .before .before .before .before .before .before .args) .s .now) _ ((c .before .before .before .before .before .before .before .before .next-token3) .ensures)) ∙ (next-made ((c .before .before .before .before .before .before .before .before .before .before .before .before .before .before .before .before .before .before .before .before .before .before .args) .s .now) _ ((c .before .before .before .before .before .before .before .before .before .next-token2) .ensures))) h, h .below)
+    (ends-free 3 (node-ends ((c .before .before .before .before .before .before .parse-single-node2) .kept .1 .0) 6 (ends-mark ((c .before .before .before .before .before .before .before .before .before .before .before .before .before .before .before .before .before .before .before .before .before .before .args) .mark) (node-ends ((c .before .before .before .before .before .before .before .before .before .before .before .before .before .before .before .before .before .parse-single-node) .kept .1 .0) 5 (ends-next (ready-ends ((c .before .before .before .before .before .before .before .before .before .before .before .before .before .before .before .before .before .before .before .before .before .before .pre) .1 .0) ((c .before .before .before .before .before .before .before .before .before .before .before .before .before .before .before .before .before .before .before .before .before .before .pre) .1 .1)) ((c .before .before .before .before .before .before .before .before .before .before .before .before .before .before .before .before .before .before .before .next-token) .ensures)) (omega arith) (single-keeps ((c .before .before .before .before .before .before .before .before .before .before .before .before .before .before .before .before .before .before .before .before .before .before .args) .depth) ((c .before .before .before .before .before .before .before .before .before .before .before .before .before .before .before .before .before .before .before .before .before .before .args) .s .now)) g) (sym ((c .before .before .before .before .before .before .before .before .before .before .before .peek-token-is) .ensures) ∙ not-false _ ((c .before .before .before .before .before .before .before .before .before .before .if1) .left)) ((c .before .before .before .before .before .before .before .before .before .before .before .before .before .before .before .before .before .before .before .before .before .before .pre) .1 .2) ((c .before .before .before .before .before .before .before .before .before .next-token2) .ensures) ((c .before .before .before .before .before .before .before .before .next-token3) .ensures)) (omega arith) (single-keeps ((c .before .before .before .before .before .before .before .before .before .before .before .before .before .before .before .before .before .before .before .before .before .before .args) .depth) ((c .before .before .before .before .before .before .before .before .before .before .before .before .before .before .before .before .before .before .before .before .before .before .args) .s .now)) h) (omega arith), first-below _ _ ((c .before .before .before .before .before .before .before .before .before .before .before .before .before .before .before .before .before .before .before .before .before .before .args) .p) _ _ _ _ (next-made ((c .before .before .before .before .before .before .before .before .before .before .before .before .before .before .before .before .before .before .before .before .before .before .args) .s .now) ((c .before .before .before .before .before .before .before .before .before .before .before .before .before .before .before .before .before .before .before .before .before .before .args) .p) ((c .before .before .before .before .before .before .before .before .before .before .before .before .before .before .before .before .before .before .before .next-token) .ensures)) g _ _ _ _ _ ((next-made ((c .before .before .before .before .before .before .before .before .before .before .before .before .before .before .before .before .before .before .before .before .before .before .args) .s .now) _ ((c .before .before .before .before .before .before .before .before .next-token3) .ensures)) ∙ (next-made ((c .before .before .before .before .before .before .before .before .before .before .before .before .before .before .before .before .before .before .before .before .before .before .args) .s .now) _ ((c .before .before .before .before .before .before .before .before .before .next-token2) .ensures))) h, below h)
 
 parse-brace-same-length-2 : (t : ℕ) → parse-brace-lts.Need-same-length-2 (parse-brace-calls t) (parse-brace-at t) parse-brace.Post
 parse-brace-same-length-2 t c = search needs
@@ -923,7 +923,7 @@ parse-brace-returns-4 : (t : ℕ) → parse-brace-lts.Need-returns-4 (parse-brac
 parse-brace-returns-4 t c =
     let g = rw ((c .before .before .before .before .before .before .before .before .before .before .before .before .before .before .before .before .target) .given .1) at ((c .before .before .before .before .before .before .before .before .before .before .before .before .before .before .before .before .before .before .before .before .parse-single-node) .ensures) in
     let h = rw ((c .before .before .before .before .before .expl) .given .1) at ((c .before .before .before .before .before .before .before .before .before .parse-single-node2) .ensures) in
-    after-two _ _ ((c .before .before .before .before .before .before .before .before .before .before .before .before .before .before .before .before .before .before .before .before .before .before .before .before .before .args) .p) _ _ _ _ (next-made ((c .before .before .before .before .before .before .before .before .before .before .before .before .before .before .before .before .before .before .before .before .before .before .before .before .before .args) .s .now) ((c .before .before .before .before .before .before .before .before .before .before .before .before .before .before .before .before .before .before .before .before .before .before .before .before .before .args) .p) ((c .before .before .before .before .before .before .before .before .before .before .before .before .before .before .before .before .before .before .before .before .before .before .next-token) .ensures)) g _ _ _ _ _ ((next-made ((c .before .before .before .before .before .before .before .before .before .before .before .before .before .before .before .before .before .before .before .before .before .before .before .before .before .args) .s .now) _ ((c .before .before .before .before .before .before .before .before .before .before .before .next-token3) .ensures)) ∙ (next-made ((c .before .before .before .before .before .before .before .before .before .before .before .before .before .before .before .before .before .before .before .before .before .before .before .before .before .args) .s .now) _ ((c .before .before .before .before .before .before .before .before .before .before .before .before .next-token2) .ensures))) h _ _ _ _ ((c .before .before .make-explained) .result) refl ((c .before .before .make-explained) .ensures) (brace-is (λ q. parseSingleNode ((c .before .before .before .before .before .before .before .before .before .before .before .before .before .before .before .before .before .before .before .before .before .before .before .before .before .args) .depth) ((c .before .before .before .before .before .before .before .before .before .before .before .before .before .before .before .before .before .before .before .before .before .before .before .before .before .args) .s .now) q) ((c .before .before .before .before .before .before .before .before .before .before .before .before .before .before .before .before .before .before .before .before .before .before .before .before .before .args) .s .now) ((c .before .before .before .before .before .before .before .before .before .before .before .before .before .before .before .before .before .before .before .before .before .before .before .before .before .args) .p) ((c .before .before .before .before .before .before .before .before .before .before .before .before .before .before .before .before .before .before .before .before .before .before .next-token) .ensures) ((c .before .before .before .before .before .before .before .before .before .before .before .before .before .before .before .before .before .before .before .before .before .before .before .before .before .args) .k) ((c .before .before .before .before .before .before .before .before .before .before .before .before .before .before .before .before .before .before .before .before .before .before .before .before .before .args) .mark) ((c .before .before .before .before .before .before .before .before .before .before .before .before .before .before .before .before .before .before .before .before .before .before .before .before .before .args) .x) (g .is) (sym ((c .before .before .before .before .before .before .before .before .before .before .before .before .before .before .peek-token-is) .ensures) ∙ not-false _ ((c .before .before .before .before .before .before .before .before .before .before .before .before .before .if1) .left)) ((c .before .before .before .before .before .before .before .before .before .before .before .before .next-token2) .ensures) ((c .before .before .before .before .before .before .before .before .before .before .before .next-token3) .ensures) (h .is))
+    after-behind _ _ ((c .before .before .before .before .before .before .before .before .before .before .before .before .before .before .before .before .before .before .before .before .before .before .before .before .before .args) .p) _ _ _ _ (next-made ((c .before .before .before .before .before .before .before .before .before .before .before .before .before .before .before .before .before .before .before .before .before .before .before .before .before .args) .s .now) ((c .before .before .before .before .before .before .before .before .before .before .before .before .before .before .before .before .before .before .before .before .before .before .before .before .before .args) .p) ((c .before .before .before .before .before .before .before .before .before .before .before .before .before .before .before .before .before .before .before .before .before .before .next-token) .ensures)) g _ _ _ _ _ ((next-made ((c .before .before .before .before .before .before .before .before .before .before .before .before .before .before .before .before .before .before .before .before .before .before .before .before .before .args) .s .now) _ ((c .before .before .before .before .before .before .before .before .before .before .before .next-token3) .ensures)) ∙ (next-made ((c .before .before .before .before .before .before .before .before .before .before .before .before .before .before .before .before .before .before .before .before .before .before .before .before .before .args) .s .now) _ ((c .before .before .before .before .before .before .before .before .before .before .before .before .next-token2) .ensures))) h _ _ _ _ ((c .before .before .make-explained) .result) refl ((c .before .before .make-explained) .ensures) (brace-is (λ q. parseSingleNode ((c .before .before .before .before .before .before .before .before .before .before .before .before .before .before .before .before .before .before .before .before .before .before .before .before .before .args) .depth) ((c .before .before .before .before .before .before .before .before .before .before .before .before .before .before .before .before .before .before .before .before .before .before .before .before .before .args) .s .now) q) ((c .before .before .before .before .before .before .before .before .before .before .before .before .before .before .before .before .before .before .before .before .before .before .before .before .before .args) .s .now) ((c .before .before .before .before .before .before .before .before .before .before .before .before .before .before .before .before .before .before .before .before .before .before .before .before .before .args) .p) ((c .before .before .before .before .before .before .before .before .before .before .before .before .before .before .before .before .before .before .before .before .before .before .next-token) .ensures) ((c .before .before .before .before .before .before .before .before .before .before .before .before .before .before .before .before .before .before .before .before .before .before .before .before .before .args) .k) ((c .before .before .before .before .before .before .before .before .before .before .before .before .before .before .before .before .before .before .before .before .before .before .before .before .before .args) .mark) ((c .before .before .before .before .before .before .before .before .before .before .before .before .before .before .before .before .before .before .before .before .before .before .before .before .before .args) .x) (g .is) (sym ((c .before .before .before .before .before .before .before .before .before .before .before .before .before .before .peek-token-is) .ensures) ∙ not-false _ ((c .before .before .before .before .before .before .before .before .before .before .before .before .before .if1) .left)) ((c .before .before .before .before .before .before .before .before .before .before .before .before .next-token2) .ensures) ((c .before .before .before .before .before .before .before .before .before .before .before .next-token3) .ensures) (h .is))
 
 abbrev parse-group-Inv-loop : parse-group-lts.InvT-loop
 parse-group-Inv-loop s store₀ depth end table q₀ first₀ last₀ count₀ store q first last count =
@@ -1058,7 +1058,7 @@ parse-left-make-fenced-requires : (t : ℕ) → parse-left-lts.Need-make-fenced-
 unfolding markNumber
 parse-left-make-fenced-requires t c κs =
     let g = rw ((c .before .before .before .content) .given .1) at ((c .before .before .before .before .before .before .before .parse-group) .ensures) in
-    let b = g .below in
+    let b = below g in
     let n = (next-made ((c .before .before .before .before .before .before .before .before .before .before .before .before .before .before .before .before .before .args) .s .now) _ ((c .before .next-token2) .ensures)) in
     (starts-free 1 (ends-next (group-ends ((c .before .before .before .before .before .before .before .parse-group) .kept .1 .0) Mark.Right (ends-next (ready-ends ((c .before .before .before .before .before .before .before .before .before .before .before .before .before .before .before .before .before .pre) .1 .0) ((c .before .before .before .before .before .before .before .before .before .before .before .before .before .before .before .before .before .pre) .1 .1)) ((c .before .before .before .before .before .before .before .before .before .before .before .before .before .before .next-token) .ensures)) (node-keeps ((c .before .before .before .before .before .before .before .before .before .before .before .before .before .before .before .before .before .args) .depth) ((c .before .before .before .before .before .before .before .before .before .before .before .before .before .before .before .before .before .args) .s .now)) (lit≤ tt) g) ((c .before .next-token2) .ensures)) (omega arith), omega arith)
 
@@ -1122,7 +1122,7 @@ parse-lim-make-leaf-first-requires : (t : ℕ) → parse-lim-lts.Need-make-leaf-
 unfolding markNumber
 parse-lim-make-leaf-first-requires t c κs =
     let g = rw ((c .before .before .under) .given .1) at ((c .before .before .before .before .before .before .parse-single-node) .ensures) in
-    (ends-free 2 (node-ends ((c .before .before .before .before .before .before .parse-single-node) .kept .1 .0) 7 (ends-mark Mark.Underscore (ready-ends ((c .before .before .before .before .before .before .before .before .before .before .before .before .before .before .pre) .1 .0) ((c .before .before .before .before .before .before .before .before .before .before .before .before .before .before .pre) .1 .1)) (sym ((c .before .before .before .before .before .before .before .before .before .before .before .peek-token-is) .ensures) ∙ not-false _ ((c .before .before .before .before .before .before .before .before .before .before .if1) .left)) (lit≤ tt) ((c .before .before .before .before .before .before .before .before .before .next-token) .ensures) ((c .before .before .before .before .before .before .before .before .next-token2) .ensures)) (omega arith) (single-keeps ((c .before .before .before .before .before .before .before .before .before .before .before .before .before .before .args) .depth) ((c .before .before .before .before .before .before .before .before .before .before .before .before .before .before .args) .s .now)) g) (omega arith), tt, g .below)
+    (ends-free 2 (node-ends ((c .before .before .before .before .before .before .parse-single-node) .kept .1 .0) 7 (ends-mark Mark.Underscore (ready-ends ((c .before .before .before .before .before .before .before .before .before .before .before .before .before .before .pre) .1 .0) ((c .before .before .before .before .before .before .before .before .before .before .before .before .before .before .pre) .1 .1)) (sym ((c .before .before .before .before .before .before .before .before .before .before .before .peek-token-is) .ensures) ∙ not-false _ ((c .before .before .before .before .before .before .before .before .before .before .if1) .left)) (lit≤ tt) ((c .before .before .before .before .before .before .before .before .before .next-token) .ensures) ((c .before .before .before .before .before .before .before .before .next-token2) .ensures)) (omega arith) (single-keeps ((c .before .before .before .before .before .before .before .before .before .before .before .before .before .before .args) .depth) ((c .before .before .before .before .before .before .before .before .before .before .before .before .before .before .args) .s .now)) g) (omega arith), tt, below g, refl)
 
 parse-lim-same-length-2 : (t : ℕ) → parse-lim-lts.Need-same-length-2 (parse-lim-calls t) (parse-lim-at t) parse-lim.Post
 parse-lim-same-length-2 t c = search needs
@@ -1184,7 +1184,7 @@ parse-limits-peek-token-is-requires t c κs = search needs
 parse-limits-make-limit-requires : (t : ℕ) → parse-limits-lts.Need-make-limit-requires (parse-limits-calls t) (parse-limits-at t) parse-limits.Post
 parse-limits-make-limit-requires t c κs =
     let g = rw ((c .before .before .before .before .before .x) .given .1) at ((c .before .before .before .before .before .before .before .before .before .parse-single-node) .ensures) in
-    (ends-free 2 (node-ends ((c .before .before .before .before .before .before .before .before .before .parse-single-node) .kept .1 .0) 7 (ends-script ((c .before .before .before .before .before .before .before .before .before .before .before .before .before .before .over) .given .0 .0) (ready-ends ((c .before .before .before .before .before .before .before .before .before .before .before .before .before .before .before .before .before .before .before .before .pre) .1 .0) ((c .before .before .before .before .before .before .before .before .before .before .before .before .before .before .before .before .before .before .before .before .pre) .1 .1)) (sym ((c .before .before .before .before .before .before .before .before .before .before .before .before .before .before .before .before .script-of) .ensures) ∙ (c .before .before .before .before .before .before .before .before .before .before .before .before .before .before .over) .given .1) ((c .before .before .before .before .before .before .before .before .before .before .before .before .next-token) .ensures) ((c .before .before .before .before .before .before .before .before .before .before .before .next-token2) .ensures)) (omega arith) (single-keeps ((c .before .before .before .before .before .before .before .before .before .before .before .before .before .before .before .before .before .before .before .before .args) .depth) ((c .before .before .before .before .before .before .before .before .before .before .before .before .before .before .before .before .before .before .before .before .args) .s .now)) g) (omega arith), g .below)
+    (ends-free 2 (node-ends ((c .before .before .before .before .before .before .before .before .before .parse-single-node) .kept .1 .0) 7 (ends-script ((c .before .before .before .before .before .before .before .before .before .before .before .before .before .before .over) .given .0 .0) (ready-ends ((c .before .before .before .before .before .before .before .before .before .before .before .before .before .before .before .before .before .before .before .before .pre) .1 .0) ((c .before .before .before .before .before .before .before .before .before .before .before .before .before .before .before .before .before .before .before .before .pre) .1 .1)) (sym ((c .before .before .before .before .before .before .before .before .before .before .before .before .before .before .before .before .script-of) .ensures) ∙ (c .before .before .before .before .before .before .before .before .before .before .before .before .before .before .over) .given .1) ((c .before .before .before .before .before .before .before .before .before .before .before .before .next-token) .ensures) ((c .before .before .before .before .before .before .before .before .before .before .before .next-token2) .ensures)) (omega arith) (single-keeps ((c .before .before .before .before .before .before .before .before .before .before .before .before .before .before .before .before .before .before .before .before .args) .depth) ((c .before .before .before .before .before .before .before .before .before .before .before .before .before .before .before .before .before .before .before .before .args) .s .now)) g) (omega arith), below g)
 
 parse-limits-same-length : (t : ℕ) → parse-limits-lts.Need-same-length (parse-limits-calls t) (parse-limits-at t) parse-limits.Post
 parse-limits-same-length t c = search needs
@@ -1223,7 +1223,7 @@ parse-limits-make-limits-requires : (t : ℕ) → parse-limits-lts.Need-make-lim
 parse-limits-make-limits-requires t c κs =
     let g = rw ((c .before .before .before .before .before .before .before .before .before .before .before .before .before .before .x) .given .1) at ((c .before .before .before .before .before .before .before .before .before .before .before .before .before .before .before .before .before .before .parse-single-node) .ensures) in
     let h = rw ((c .before .before .y) .given .1) at ((c .before .before .before .before .before .before .parse-single-node2) .ensures) in
-    (ends-free 2 (node-ends ((c .before .before .before .before .before .before .parse-single-node2) .kept .1 .0) 8 (ends-mark (otherLimit ((c .before .before .before .before .before .before .before .before .before .before .before .before .before .before .before .before .before .before .before .before .before .before .before .over) .given .0 .0)) (node-ends ((c .before .before .before .before .before .before .before .before .before .before .before .before .before .before .before .before .before .before .parse-single-node) .kept .1 .0) 7 (ends-script ((c .before .before .before .before .before .before .before .before .before .before .before .before .before .before .before .before .before .before .before .before .before .before .before .over) .given .0 .0) (ready-ends ((c .before .before .before .before .before .before .before .before .before .before .before .before .before .before .before .before .before .before .before .before .before .before .before .before .before .before .before .before .before .pre) .1 .0) ((c .before .before .before .before .before .before .before .before .before .before .before .before .before .before .before .before .before .before .before .before .before .before .before .before .before .before .before .before .before .pre) .1 .1)) (sym ((c .before .before .before .before .before .before .before .before .before .before .before .before .before .before .before .before .before .before .before .before .before .before .before .before .before .script-of) .ensures) ∙ (c .before .before .before .before .before .before .before .before .before .before .before .before .before .before .before .before .before .before .before .before .before .before .before .over) .given .1) ((c .before .before .before .before .before .before .before .before .before .before .before .before .before .before .before .before .before .before .before .before .before .next-token) .ensures) ((c .before .before .before .before .before .before .before .before .before .before .before .before .before .before .before .before .before .before .before .before .next-token2) .ensures)) (omega arith) (single-keeps ((c .before .before .before .before .before .before .before .before .before .before .before .before .before .before .before .before .before .before .before .before .before .before .before .before .before .before .before .before .before .args) .depth) ((c .before .before .before .before .before .before .before .before .before .before .before .before .before .before .before .before .before .before .before .before .before .before .before .before .before .before .before .before .before .args) .s .now)) g) (rw ((c .before .before .before .before .before .before .before .before .before .before .before .before .other-limit) .ensures) at (sym ((c .before .before .before .before .before .before .before .before .before .before .before .peek-token-is) .ensures) ∙ not-false _ ((c .before .before .before .before .before .before .before .before .before .before .if1) .left))) (other-byte ((c .before .before .before .before .before .before .before .before .before .before .before .before .before .before .before .before .before .before .before .before .before .before .before .over) .given .0 .0)) ((c .before .before .before .before .before .before .before .before .before .next-token3) .ensures) ((c .before .before .before .before .before .before .before .before .next-token4) .ensures)) (omega arith) (single-keeps ((c .before .before .before .before .before .before .before .before .before .before .before .before .before .before .before .before .before .before .before .before .before .before .before .before .before .before .before .before .before .args) .depth) ((c .before .before .before .before .before .before .before .before .before .before .before .before .before .before .before .before .before .before .before .before .before .before .before .before .before .before .before .before .before .args) .s .now)) h) (omega arith), first-below _ _ ((c .before .before .before .before .before .before .before .before .before .before .before .before .before .before .before .before .before .before .before .before .before .before .before .before .before .before .before .before .before .args) .p) _ _ _ _ ((next-made ((c .before .before .before .before .before .before .before .before .before .before .before .before .before .before .before .before .before .before .before .before .before .before .before .before .before .before .before .before .before .args) .s .now) _ ((c .before .before .before .before .before .before .before .before .before .before .before .before .before .before .before .before .before .before .before .before .next-token2) .ensures)) ∙ (next-made ((c .before .before .before .before .before .before .before .before .before .before .before .before .before .before .before .before .before .before .before .before .before .before .before .before .before .before .before .before .before .args) .s .now) ((c .before .before .before .before .before .before .before .before .before .before .before .before .before .before .before .before .before .before .before .before .before .before .before .before .before .before .before .before .before .args) .p) ((c .before .before .before .before .before .before .before .before .before .before .before .before .before .before .before .before .before .before .before .before .before .next-token) .ensures))) g _ _ _ _ _ ((next-made ((c .before .before .before .before .before .before .before .before .before .before .before .before .before .before .before .before .before .before .before .before .before .before .before .before .before .before .before .before .before .args) .s .now) _ ((c .before .before .before .before .before .before .before .before .next-token4) .ensures)) ∙ (next-made ((c .before .before .before .before .before .before .before .before .before .before .before .before .before .before .before .before .before .before .before .before .before .before .before .before .before .before .before .before .before .args) .s .now) _ ((c .before .before .before .before .before .before .before .before .before .next-token3) .ensures))) h, h .below)
+    (ends-free 2 (node-ends ((c .before .before .before .before .before .before .parse-single-node2) .kept .1 .0) 8 (ends-mark (otherLimit ((c .before .before .before .before .before .before .before .before .before .before .before .before .before .before .before .before .before .before .before .before .before .before .before .over) .given .0 .0)) (node-ends ((c .before .before .before .before .before .before .before .before .before .before .before .before .before .before .before .before .before .before .parse-single-node) .kept .1 .0) 7 (ends-script ((c .before .before .before .before .before .before .before .before .before .before .before .before .before .before .before .before .before .before .before .before .before .before .before .over) .given .0 .0) (ready-ends ((c .before .before .before .before .before .before .before .before .before .before .before .before .before .before .before .before .before .before .before .before .before .before .before .before .before .before .before .before .before .pre) .1 .0) ((c .before .before .before .before .before .before .before .before .before .before .before .before .before .before .before .before .before .before .before .before .before .before .before .before .before .before .before .before .before .pre) .1 .1)) (sym ((c .before .before .before .before .before .before .before .before .before .before .before .before .before .before .before .before .before .before .before .before .before .before .before .before .before .script-of) .ensures) ∙ (c .before .before .before .before .before .before .before .before .before .before .before .before .before .before .before .before .before .before .before .before .before .before .before .over) .given .1) ((c .before .before .before .before .before .before .before .before .before .before .before .before .before .before .before .before .before .before .before .before .before .next-token) .ensures) ((c .before .before .before .before .before .before .before .before .before .before .before .before .before .before .before .before .before .before .before .before .next-token2) .ensures)) (omega arith) (single-keeps ((c .before .before .before .before .before .before .before .before .before .before .before .before .before .before .before .before .before .before .before .before .before .before .before .before .before .before .before .before .before .args) .depth) ((c .before .before .before .before .before .before .before .before .before .before .before .before .before .before .before .before .before .before .before .before .before .before .before .before .before .before .before .before .before .args) .s .now)) g) (rw ((c .before .before .before .before .before .before .before .before .before .before .before .before .other-limit) .ensures) at (sym ((c .before .before .before .before .before .before .before .before .before .before .before .peek-token-is) .ensures) ∙ not-false _ ((c .before .before .before .before .before .before .before .before .before .before .if1) .left))) (other-byte ((c .before .before .before .before .before .before .before .before .before .before .before .before .before .before .before .before .before .before .before .before .before .before .before .over) .given .0 .0)) ((c .before .before .before .before .before .before .before .before .before .next-token3) .ensures) ((c .before .before .before .before .before .before .before .before .next-token4) .ensures)) (omega arith) (single-keeps ((c .before .before .before .before .before .before .before .before .before .before .before .before .before .before .before .before .before .before .before .before .before .before .before .before .before .before .before .before .before .args) .depth) ((c .before .before .before .before .before .before .before .before .before .before .before .before .before .before .before .before .before .before .before .before .before .before .before .before .before .before .before .before .before .args) .s .now)) h) (omega arith), first-below _ _ ((c .before .before .before .before .before .before .before .before .before .before .before .before .before .before .before .before .before .before .before .before .before .before .before .before .before .before .before .before .before .args) .p) _ _ _ _ ((next-made ((c .before .before .before .before .before .before .before .before .before .before .before .before .before .before .before .before .before .before .before .before .before .before .before .before .before .before .before .before .before .args) .s .now) _ ((c .before .before .before .before .before .before .before .before .before .before .before .before .before .before .before .before .before .before .before .before .next-token2) .ensures)) ∙ (next-made ((c .before .before .before .before .before .before .before .before .before .before .before .before .before .before .before .before .before .before .before .before .before .before .before .before .before .before .before .before .before .args) .s .now) ((c .before .before .before .before .before .before .before .before .before .before .before .before .before .before .before .before .before .before .before .before .before .before .before .before .before .before .before .before .before .args) .p) ((c .before .before .before .before .before .before .before .before .before .before .before .before .before .before .before .before .before .before .before .before .before .next-token) .ensures))) g _ _ _ _ _ ((next-made ((c .before .before .before .before .before .before .before .before .before .before .before .before .before .before .before .before .before .before .before .before .before .before .before .before .before .before .before .before .before .args) .s .now) _ ((c .before .before .before .before .before .before .before .before .next-token4) .ensures)) ∙ (next-made ((c .before .before .before .before .before .before .before .before .before .before .before .before .before .before .before .before .before .before .before .before .before .before .before .before .before .before .before .before .before .args) .s .now) _ ((c .before .before .before .before .before .before .before .before .before .next-token3) .ensures))) h, below h)
 
 parse-limits-same-length-2 : (t : ℕ) → parse-limits-lts.Need-same-length-2 (parse-limits-calls t) (parse-limits-at t) parse-limits.Post
 parse-limits-same-length-2 t c = search needs
@@ -1280,7 +1280,7 @@ parse-middle-enum-known-i t c = search needs
 parse-middle-make-stretched-requires : (t : ℕ) → parse-middle-lts.Need-make-stretched-requires (parse-middle-calls t) (parse-middle-at t) parse-middle.Post
 parse-middle-make-stretched-requires t c κs =
     let g = rw ((c .before .before .i) .given .1) at ((c .before .before .before .before .before .before .parse-single-node) .ensures) in
-    (ends-free 1 (node-ends ((c .before .before .before .before .before .before .parse-single-node) .kept .1 .0) 5 (ends-next (ready-ends ((c .before .before .before .before .before .before .before .before .before .before .before .pre) .1 .0) ((c .before .before .before .before .before .before .before .before .before .before .before .pre) .1 .1)) ((c .before .before .before .before .before .before .before .before .next-token) .ensures)) (omega arith) (single-keeps ((c .before .before .before .before .before .before .before .before .before .before .before .args) .depth) ((c .before .before .before .before .before .before .before .before .before .before .before .args) .s .now)) g) (omega arith), g .below)
+    (ends-free 1 (node-ends ((c .before .before .before .before .before .before .parse-single-node) .kept .1 .0) 5 (ends-next (ready-ends ((c .before .before .before .before .before .before .before .before .before .before .before .pre) .1 .0) ((c .before .before .before .before .before .before .before .before .before .before .before .pre) .1 .1)) ((c .before .before .before .before .before .before .before .before .next-token) .ensures)) (omega arith) (single-keeps ((c .before .before .before .before .before .before .before .before .before .before .before .args) .depth) ((c .before .before .before .before .before .before .before .before .before .before .before .args) .s .now)) g) (omega arith), below g)
 
 parse-middle-same-length : (t : ℕ) → parse-middle-lts.Need-same-length (parse-middle-calls t) (parse-middle-at t) parse-middle.Post
 parse-middle-same-length t c = search needs
@@ -1317,7 +1317,7 @@ parse-node-same-length t c = search needs
 
 parse-node-returns-2 : (t : ℕ) → parse-node-lts.Need-returns-2 (parse-node-calls t) (parse-node-at t) parse-node.Post
 parse-node-returns-2 t c =
-    after-none _ _ ((c .before .before .before .before .before .before .before .before .before .before .before .before .args) .p) ((c .before .before .before .before .before .before .before .before .before .before .before .before .args) .p) _ _ ((c .before .before .make-leaf) .result) refl (rw ((c .before .before .before .leaf-of) .ensures) at ((c .before .before .make-leaf) .ensures)) (alone-is ((c .before .before .before .before .before .before .before .before .before .before .before .before .args) .depth) ((c .before .before .before .before .before .before .before .before .before .before .before .before .args) .s .now) ((c .before .before .before .before .before .before .before .before .before .before .before .before .args) .p) ((c .before .before .before .before .before .before .before .before .before .if1) .left) (sym ((c .before .before .before .before .before .before .stands-alone) .ensures) ∙ (c .before .before .before .before .before .if2) .taken))
+    after-none _ _ ((c .before .before .before .before .before .before .before .before .before .before .before .before .args) .p) ((c .before .before .before .before .before .before .before .before .before .before .before .before .args) .p) _ _ ((c .before .before .make-leaf) .result) refl (λ lo e. (rw ((c .before .before .before .leaf-of) .ensures) at ((c .before .before .make-leaf) .ensures)) lo (leaf-before _ lo _ (((c .before .before .before .before .before .before .before .before .before .before .before .before .args) .p) .cur .token) e)) (alone-is ((c .before .before .before .before .before .before .before .before .before .before .before .before .args) .depth) ((c .before .before .before .before .before .before .before .before .before .before .before .before .args) .s .now) ((c .before .before .before .before .before .before .before .before .before .before .before .before .args) .p) ((c .before .before .before .before .before .before .before .before .before .if1) .left) (sym ((c .before .before .before .before .before .before .stands-alone) .ensures) ∙ (c .before .before .before .before .before .if2) .taken))
 
 parse-node-sub-parse-single-node : (t : ℕ) → parse-node-lts.Need-sub-parse-single-node (parse-node-calls t) (parse-node-at t) parse-node.Post
 parse-node-sub-parse-single-node t c = search needs
@@ -1344,7 +1344,7 @@ parse-node-scripts-requires t c κs =
     let m = (c .before .before .before .before .before .before .before .before .before .before .before .before .before .before .before .pre) .0 in
     let z = (c .before .before .before .before .before .before .before .before .before .before .before .before .if1) .left in
     let g = rw ((c .before .before .base) .given .1) at ((c .before .before .before .before .before .before .parse-single-node) .ensures) in
-    (omega arith, (ready-node ((c .before .before .before .before .before .before .parse-single-node) .kept .1 .0) ((c .before .before .before .before .before .before .before .before .before .before .before .before .before .before .before .pre) .1) (single-keeps (((c .before .before .before .before .before .before .before .before .before .before .before .before .before .before .before .args) .depth) - 1) ((c .before .before .before .before .before .before .before .before .before .before .before .before .before .before .before .args) .s .now)) g, g .below, omega arith))
+    (omega arith, (ready-node ((c .before .before .before .before .before .before .parse-single-node) .kept .1 .0) ((c .before .before .before .before .before .before .before .before .before .before .before .before .before .before .before .pre) .1) (single-keeps (((c .before .before .before .before .before .before .before .before .before .before .before .before .before .before .before .args) .depth) - 1) ((c .before .before .before .before .before .before .before .before .before .before .before .before .before .before .before .args) .s .now)) g, below g, omega arith))
 
 parse-node-same-length-2 : (t : ℕ) → parse-node-lts.Need-same-length-2 (parse-node-calls t) (parse-node-at t) parse-node.Post
 parse-node-same-length-2 t c = search needs
@@ -1382,7 +1382,7 @@ parse-one-enum-known-a t c = search needs
 parse-one-make-one-requires : (t : ℕ) → parse-one-lts.Need-make-one-requires (parse-one-calls t) (parse-one-at t) parse-one.Post
 parse-one-make-one-requires t c κs =
     let g = rw ((c .before .before .a) .given .1) at ((c .before .before .before .before .before .before .parse-node) .ensures) in
-    (ends-free 1 (node-ends ((c .before .before .before .before .before .before .parse-node) .kept .1 .0) 5 (ends-next (ready-ends ((c .before .before .before .before .before .before .before .before .before .before .before .pre) .1 .0) ((c .before .before .before .before .before .before .before .before .before .before .before .pre) .1 .1)) ((c .before .before .before .before .before .before .before .before .next-token) .ensures)) (omega arith) (node-keeps ((c .before .before .before .before .before .before .before .before .before .before .before .args) .depth) ((c .before .before .before .before .before .before .before .before .before .before .before .args) .s .now)) g) (omega arith), g .below)
+    (ends-free 1 (node-ends ((c .before .before .before .before .before .before .parse-node) .kept .1 .0) 5 (ends-next (ready-ends ((c .before .before .before .before .before .before .before .before .before .before .before .pre) .1 .0) ((c .before .before .before .before .before .before .before .before .before .before .before .pre) .1 .1)) ((c .before .before .before .before .before .before .before .before .next-token) .ensures)) (omega arith) (node-keeps ((c .before .before .before .before .before .before .before .before .before .before .before .args) .depth) ((c .before .before .before .before .before .before .before .before .before .before .before .args) .s .now)) g) (omega arith), below g)
 
 parse-one-same-length : (t : ℕ) → parse-one-lts.Need-same-length (parse-one-calls t) (parse-one-at t) parse-one.Post
 parse-one-same-length t c = search needs
@@ -1424,7 +1424,7 @@ parse-single-node-finish-prime-requires :
 parse-single-node-finish-prime-requires t c κs =
     let g = rw ((c .before .before .n) .given .1) at ((c .before .before .before .before .before .before .parse-bare) .ensures) in
     let e = (ready-node ((c .before .before .before .before .before .before .parse-bare) .kept .1 .0) ((c .before .before .before .before .before .before .before .before .before .before .before .pre) .1) (bare-keeps (((c .before .before .before .before .before .before .before .before .before .before .before .args) .depth) - 1) ((c .before .before .before .before .before .before .before .before .before .before .before .args) .s .now)) g) in
-    (e .sound .peek .inside, prime-free e, g .below, e .table)
+    (e .sound .peek .inside, prime-free e, below g, e .table)
 
 parse-single-node-same-length : (t : ℕ) → parse-single-node-lts.Need-same-length (parse-single-node-calls t) (parse-single-node-at t) parse-single-node.Post
 parse-single-node-same-length t c = search needs
@@ -1472,7 +1472,7 @@ parse-slashed-next-token-requires-3 t c κs =
 parse-slashed-make-one-requires : (t : ℕ) → parse-slashed-lts.Need-make-one-requires (parse-slashed-calls t) (parse-slashed-at t) parse-slashed.Post
 parse-slashed-make-one-requires t c κs =
     let g = rw ((c .before .before .before .a) .given .1) at ((c .before .before .before .before .before .before .before .parse-node) .ensures) in
-    let b = g .below in
+    let b = below g in
     let n = (next-made ((c .before .before .before .before .before .before .before .before .before .before .before .before .before .args) .s .now) _ ((c .before .next-token3) .ensures)) in
     (starts-free 1 (ends-next (node-ends ((c .before .before .before .before .before .before .before .parse-node) .kept .1 .0) 5 (starts-next (ends-next (ready-ends ((c .before .before .before .before .before .before .before .before .before .before .before .before .before .pre) .1 .0) ((c .before .before .before .before .before .before .before .before .before .before .before .before .before .pre) .1 .1)) ((c .before .before .before .before .before .before .before .before .before .before .next-token) .ensures)) ((c .before .before .before .before .before .before .before .before .before .next-token2) .ensures)) (omega arith) (node-keeps ((c .before .before .before .before .before .before .before .before .before .before .before .before .before .args) .depth) ((c .before .before .before .before .before .before .before .before .before .before .before .before .before .args) .s .now)) g) ((c .before .next-token3) .ensures)) (omega arith), omega arith)
 
@@ -1554,7 +1554,7 @@ unfolding markNumber
 parse-sqrt-make-two-requires t c κs =
     let g = rw ((c .before .before .before .before .before .before .before .before .before .before .degree) .given .1) at ((c .before .before .before .before .before .before .before .before .before .before .before .before .before .before .parse-group) .ensures) in
     let h = rw ((c .before .before .content) .given .1) at ((c .before .before .before .before .before .before .parse-node) .ensures) in
-    (ends-free 1 (node-ends ((c .before .before .before .before .before .before .parse-node) .kept .1 .0) 5 (ends-next (group-ends ((c .before .before .before .before .before .before .before .before .before .before .before .before .before .before .parse-group) .kept .1 .0) Mark.RBracket (ends-next (ready-ends ((c .before .before .before .before .before .before .before .before .before .before .before .before .before .before .before .before .before .before .before .before .before .pre) .1 .0) ((c .before .before .before .before .before .before .before .before .before .before .before .before .before .before .before .before .before .before .before .before .before .pre) .1 .1)) ((c .before .before .before .before .before .before .before .before .before .before .before .before .before .before .before .before .before .before .next-token) .ensures)) (node-keeps ((c .before .before .before .before .before .before .before .before .before .before .before .before .before .before .before .before .before .before .before .before .before .args) .depth) ((c .before .before .before .before .before .before .before .before .before .before .before .before .before .before .before .before .before .before .before .before .before .args) .s .now)) (lit≤ tt) g) ((c .before .before .before .before .before .before .before .before .next-token2) .ensures)) (omega arith) (node-keeps ((c .before .before .before .before .before .before .before .before .before .before .before .before .before .before .before .before .before .before .before .before .before .args) .depth) ((c .before .before .before .before .before .before .before .before .before .before .before .before .before .before .before .before .before .before .before .before .before .args) .s .now)) h) (omega arith), h .below, first-below _ _ ((c .before .before .before .before .before .before .before .before .before .before .before .before .before .before .before .before .before .before .before .before .before .args) .p) _ _ _ _ (next-made ((c .before .before .before .before .before .before .before .before .before .before .before .before .before .before .before .before .before .before .before .before .before .args) .s .now) ((c .before .before .before .before .before .before .before .before .before .before .before .before .before .before .before .before .before .before .before .before .before .args) .p) ((c .before .before .before .before .before .before .before .before .before .before .before .before .before .before .before .before .before .before .next-token) .ensures)) g _ _ _ _ _ (next-made ((c .before .before .before .before .before .before .before .before .before .before .before .before .before .before .before .before .before .before .before .before .before .args) .s .now) _ ((c .before .before .before .before .before .before .before .before .next-token2) .ensures)) h)
+    (ends-free 1 (node-ends ((c .before .before .before .before .before .before .parse-node) .kept .1 .0) 5 (ends-next (group-ends ((c .before .before .before .before .before .before .before .before .before .before .before .before .before .before .parse-group) .kept .1 .0) Mark.RBracket (ends-next (ready-ends ((c .before .before .before .before .before .before .before .before .before .before .before .before .before .before .before .before .before .before .before .before .before .pre) .1 .0) ((c .before .before .before .before .before .before .before .before .before .before .before .before .before .before .before .before .before .before .before .before .before .pre) .1 .1)) ((c .before .before .before .before .before .before .before .before .before .before .before .before .before .before .before .before .before .before .next-token) .ensures)) (node-keeps ((c .before .before .before .before .before .before .before .before .before .before .before .before .before .before .before .before .before .before .before .before .before .args) .depth) ((c .before .before .before .before .before .before .before .before .before .before .before .before .before .before .before .before .before .before .before .before .before .args) .s .now)) (lit≤ tt) g) ((c .before .before .before .before .before .before .before .before .next-token2) .ensures)) (omega arith) (node-keeps ((c .before .before .before .before .before .before .before .before .before .before .before .before .before .before .before .before .before .before .before .before .before .args) .depth) ((c .before .before .before .before .before .before .before .before .before .before .before .before .before .before .before .before .before .before .before .before .before .args) .s .now)) h) (omega arith), below h, first-below _ _ ((c .before .before .before .before .before .before .before .before .before .before .before .before .before .before .before .before .before .before .before .before .before .args) .p) _ _ _ _ (next-made ((c .before .before .before .before .before .before .before .before .before .before .before .before .before .before .before .before .before .before .before .before .before .args) .s .now) ((c .before .before .before .before .before .before .before .before .before .before .before .before .before .before .before .before .before .before .before .before .before .args) .p) ((c .before .before .before .before .before .before .before .before .before .before .before .before .before .before .before .before .before .before .next-token) .ensures)) g _ _ _ _ _ (next-made ((c .before .before .before .before .before .before .before .before .before .before .before .before .before .before .before .before .before .before .before .before .before .args) .s .now) _ ((c .before .before .before .before .before .before .before .before .next-token2) .ensures)) h)
 
 parse-sqrt-same-length-3 : (t : ℕ) → parse-sqrt-lts.Need-same-length-3 (parse-sqrt-calls t) (parse-sqrt-at t) parse-sqrt.Post
 parse-sqrt-same-length-3 t c =
@@ -1580,7 +1580,7 @@ parse-sqrt-enum-known-content-2 t c = search needs
 parse-sqrt-make-one-requires : (t : ℕ) → parse-sqrt-lts.Need-make-one-requires (parse-sqrt-calls t) (parse-sqrt-at t) parse-sqrt.Post
 parse-sqrt-make-one-requires t c κs =
     let g = rw ((c .before .before .content2) .given .1) at ((c .before .before .before .before .before .before .parse-node2) .ensures) in
-    (ends-free 1 (node-ends ((c .before .before .before .before .before .before .parse-node2) .kept .1 .0) 5 (ends-next (ready-ends ((c .before .before .before .before .before .before .before .before .before .before .before .before .before .pre) .1 .0) ((c .before .before .before .before .before .before .before .before .before .before .before .before .before .pre) .1 .1)) ((c .before .before .before .before .before .before .before .before .before .before .next-token) .ensures)) (omega arith) (node-keeps ((c .before .before .before .before .before .before .before .before .before .before .before .before .before .args) .depth) ((c .before .before .before .before .before .before .before .before .before .before .before .before .before .args) .s .now)) g) (omega arith), g .below)
+    (ends-free 1 (node-ends ((c .before .before .before .before .before .before .parse-node2) .kept .1 .0) 5 (ends-next (ready-ends ((c .before .before .before .before .before .before .before .before .before .before .before .before .before .pre) .1 .0) ((c .before .before .before .before .before .before .before .before .before .before .before .before .before .pre) .1 .1)) ((c .before .before .before .before .before .before .before .before .before .before .next-token) .ensures)) (omega arith) (node-keeps ((c .before .before .before .before .before .before .before .before .before .before .before .before .before .args) .depth) ((c .before .before .before .before .before .before .before .before .before .before .before .before .before .args) .s .now)) g) (omega arith), below g)
 
 parse-sqrt-same-length-4 : (t : ℕ) → parse-sqrt-lts.Need-same-length-4 (parse-sqrt-calls t) (parse-sqrt-at t) parse-sqrt.Post
 parse-sqrt-same-length-4 t c = search needs
@@ -1618,7 +1618,7 @@ parse-style-set-variant-requires : (t : ℕ) → parse-style-lts.Need-set-varian
 parse-style-set-variant-requires t c κs =
     let g = rw ((c .before .before .i) .given .1) at ((c .before .before .before .before .before .before .parse-node) .ensures) in
     let e = ends-free 0 (node-ends ((c .before .before .before .before .before .before .parse-node) .kept .1 .0) 5 (ends-next (ready-ends ((c .before .before .before .before .before .before .before .before .before .before .before .pre) .1 .0) ((c .before .before .before .before .before .before .before .before .before .before .before .pre) .1 .1)) ((c .before .before .before .before .before .before .before .before .next-token) .ensures)) (omega arith) (node-keeps ((c .before .before .before .before .before .before .before .before .before .before .before .args) .depth) ((c .before .before .before .before .before .before .before .before .before .before .before .args) .s .now)) g) (omega arith) in
-    let b = g .below in
+    let b = below g in
     let f = e .fits in
     (record { lo = _; tree = g .tree; held = g .held; fits = omega arith }, b)
 
@@ -1676,7 +1676,7 @@ parse-two-make-pair-requires : (t : ℕ) → parse-two-lts.Need-make-pair-requir
 parse-two-make-pair-requires t c κs =
     let g = rw ((c .before .before .before .before .before .before .before .before .before .before .a) .given .1) at ((c .before .before .before .before .before .before .before .before .before .before .before .before .before .before .parse-node) .ensures) in
     let h = rw ((c .before .before .b) .given .1) at ((c .before .before .before .before .before .before .parse-node2) .ensures) in
-    (ends-free 4 (node-ends ((c .before .before .before .before .before .before .parse-node2) .kept .1 .0) 4 (ends-next (node-ends ((c .before .before .before .before .before .before .before .before .before .before .before .before .before .before .parse-node) .kept .1 .0) 5 (ends-next (ready-ends ((c .before .before .before .before .before .before .before .before .before .before .before .before .before .before .before .before .before .before .before .pre) .1 .0) ((c .before .before .before .before .before .before .before .before .before .before .before .before .before .before .before .before .before .before .before .pre) .1 .1)) ((c .before .before .before .before .before .before .before .before .before .before .before .before .before .before .before .before .next-token) .ensures)) (omega arith) (node-keeps ((c .before .before .before .before .before .before .before .before .before .before .before .before .before .before .before .before .before .before .before .args) .depth) ((c .before .before .before .before .before .before .before .before .before .before .before .before .before .before .before .before .before .before .before .args) .s .now)) g) ((c .before .before .before .before .before .before .before .before .next-token2) .ensures)) (omega arith) (node-keeps ((c .before .before .before .before .before .before .before .before .before .before .before .before .before .before .before .before .before .before .before .args) .depth) ((c .before .before .before .before .before .before .before .before .before .before .before .before .before .before .before .before .before .before .before .args) .s .now)) h) (omega arith), first-below _ _ ((c .before .before .before .before .before .before .before .before .before .before .before .before .before .before .before .before .before .before .before .args) .p) _ _ _ _ (next-made ((c .before .before .before .before .before .before .before .before .before .before .before .before .before .before .before .before .before .before .before .args) .s .now) ((c .before .before .before .before .before .before .before .before .before .before .before .before .before .before .before .before .before .before .before .args) .p) ((c .before .before .before .before .before .before .before .before .before .before .before .before .before .before .before .before .next-token) .ensures)) g _ _ _ _ _ (next-made ((c .before .before .before .before .before .before .before .before .before .before .before .before .before .before .before .before .before .before .before .args) .s .now) _ ((c .before .before .before .before .before .before .before .before .next-token2) .ensures)) h, h .below)
+    (ends-free 4 (node-ends ((c .before .before .before .before .before .before .parse-node2) .kept .1 .0) 4 (ends-next (node-ends ((c .before .before .before .before .before .before .before .before .before .before .before .before .before .before .parse-node) .kept .1 .0) 5 (ends-next (ready-ends ((c .before .before .before .before .before .before .before .before .before .before .before .before .before .before .before .before .before .before .before .pre) .1 .0) ((c .before .before .before .before .before .before .before .before .before .before .before .before .before .before .before .before .before .before .before .pre) .1 .1)) ((c .before .before .before .before .before .before .before .before .before .before .before .before .before .before .before .before .next-token) .ensures)) (omega arith) (node-keeps ((c .before .before .before .before .before .before .before .before .before .before .before .before .before .before .before .before .before .before .before .args) .depth) ((c .before .before .before .before .before .before .before .before .before .before .before .before .before .before .before .before .before .before .before .args) .s .now)) g) ((c .before .before .before .before .before .before .before .before .next-token2) .ensures)) (omega arith) (node-keeps ((c .before .before .before .before .before .before .before .before .before .before .before .before .before .before .before .before .before .before .before .args) .depth) ((c .before .before .before .before .before .before .before .before .before .before .before .before .before .before .before .before .before .before .before .args) .s .now)) h) (omega arith), first-below _ _ ((c .before .before .before .before .before .before .before .before .before .before .before .before .before .before .before .before .before .before .before .args) .p) _ _ _ _ (next-made ((c .before .before .before .before .before .before .before .before .before .before .before .before .before .before .before .before .before .before .before .args) .s .now) ((c .before .before .before .before .before .before .before .before .before .before .before .before .before .before .before .before .before .before .before .args) .p) ((c .before .before .before .before .before .before .before .before .before .before .before .before .before .before .before .before .next-token) .ensures)) g _ _ _ _ _ (next-made ((c .before .before .before .before .before .before .before .before .before .before .before .before .before .before .before .before .before .before .before .args) .s .now) _ ((c .before .before .before .before .before .before .before .before .next-token2) .ensures)) h, below h)
 
 parse-two-same-length : (t : ℕ) → parse-two-lts.Need-same-length (parse-two-calls t) (parse-two-at t) parse-two.Post
 parse-two-same-length t c = search needs
@@ -1736,7 +1736,7 @@ scripts-make-leaf-second-requires t c κs =
     let h = (ends-script ((c .before .before .before .before .before .before .before .before .before .before .over) .given .0 .0) ((c .before .before .before .before .before .before .before .before .before .before .before .before .before .before .before .before .pre) .1 .0) (sym ((c .before .before .before .before .before .before .before .before .before .before .before .before .script-of) .ensures) ∙ (c .before .before .before .before .before .before .before .before .before .before .over) .given .1) ((c .before .before .before .before .before .before .before .before .next-token) .ensures) ((c .before .before .before .before .before .before .before .next-token2) .ensures)) in
     let same = (next-made ((c .before .before .before .before .before .before .before .before .before .before .before .before .before .before .before .before .args) .s .now) _ ((c .before .before .before .before .before .before .before .next-token2) .ensures) ∙ next-made ((c .before .before .before .before .before .before .before .before .before .before .before .before .before .before .before .before .args) .s .now) ((c .before .before .before .before .before .before .before .before .before .before .before .before .before .before .before .before .args) .p) ((c .before .before .before .before .before .before .before .before .next-token) .ensures)) in
     let below = (c .before .before .before .before .before .before .before .before .before .before .before .before .before .before .before .before .pre) .1 .1 in
-    (starts-free 2 h (omega arith), rw ((c .leaf-of) .ensures) (leaf-placed (length ((c .before .before .before .before .before .before .before .before .before .before .before .before .before .before .before .before .args) .s .now)) _ (h .long) (h .sound .cur .places)), omega arith)
+    (starts-free 2 h (omega arith), rw ((c .leaf-of) .ensures) (leaf-placed (length ((c .before .before .before .before .before .before .before .before .before .before .before .before .before .before .before .before .args) .s .now)) _ (h .long) (h .sound .cur .places)), omega arith, rw ((c .leaf-of) .ensures) (plain-leaf (((c .before .before .before .before .before .before .before .next-token2) .result) .cur .token)))
 
 scripts-same-length : (t : ℕ) → scripts-lts.Need-same-length (scripts-calls t) (scripts-at t) scripts.Post
 scripts-same-length t c = search needs
@@ -1760,11 +1760,11 @@ scripts-second-requires : (t : ℕ) → scripts-lts.Need-second-requires (script
 scripts-second-requires t c κs =
     let m = (c .before .before .before .before .before .before .before .before .before .before .before .before .before .before .before .before .before .before .before .before .before .pre) .0 in
     let g = rw ((c .before .before .x) .given .1) at ((c .before .before .before .before .before .before .parse-single-node) .ensures) in
-    (omega arith, (node-ends ((c .before .before .before .before .before .before .parse-single-node) .kept .1 .0) 1 (ends-script ((c .before .before .before .before .before .before .before .before .before .before .before .before .before .before .before .over) .given .0 .0) ((c .before .before .before .before .before .before .before .before .before .before .before .before .before .before .before .before .before .before .before .before .before .pre) .1 .0) (sym ((c .before .before .before .before .before .before .before .before .before .before .before .before .before .before .before .before .before .script-of) .ensures) ∙ (c .before .before .before .before .before .before .before .before .before .before .before .before .before .before .before .over) .given .1) ((c .before .before .before .before .before .before .before .before .before .before .before .before .before .next-token) .ensures) ((c .before .before .before .before .before .before .before .before .before .before .before .before .next-token2) .ensures)) (omega arith) (single-keeps ((c .before .before .before .before .before .before .before .before .before .before .before .before .before .before .before .before .before .before .before .before .before .args) .depth) ((c .before .before .before .before .before .before .before .before .before .before .before .before .before .before .before .before .before .before .before .before .before .args) .s .now)) g, old-below _ _ ((c .before .before .before .before .before .before .before .before .before .before .before .before .before .before .before .before .before .before .before .before .before .args) .p) _ _ _ _ (next-made ((c .before .before .before .before .before .before .before .before .before .before .before .before .before .before .before .before .before .before .before .before .before .args) .s .now) _ ((c .before .before .before .before .before .before .before .before .before .before .before .before .next-token2) .ensures) ∙ next-made ((c .before .before .before .before .before .before .before .before .before .before .before .before .before .before .before .before .before .before .before .before .before .args) .s .now) ((c .before .before .before .before .before .before .before .before .before .before .before .before .before .before .before .before .before .before .before .before .before .args) .p) ((c .before .before .before .before .before .before .before .before .before .before .before .before .before .next-token) .ensures)) g ((c .before .before .before .before .before .before .before .before .before .before .before .before .before .before .before .before .before .before .before .before .before .args) .base) ((c .before .before .before .before .before .before .before .before .before .before .before .before .before .before .before .before .before .before .before .before .before .pre) .1 .1), g .below))
+    (omega arith, (node-ends ((c .before .before .before .before .before .before .parse-single-node) .kept .1 .0) 1 (ends-script ((c .before .before .before .before .before .before .before .before .before .before .before .before .before .before .before .over) .given .0 .0) ((c .before .before .before .before .before .before .before .before .before .before .before .before .before .before .before .before .before .before .before .before .before .pre) .1 .0) (sym ((c .before .before .before .before .before .before .before .before .before .before .before .before .before .before .before .before .before .script-of) .ensures) ∙ (c .before .before .before .before .before .before .before .before .before .before .before .before .before .before .before .over) .given .1) ((c .before .before .before .before .before .before .before .before .before .before .before .before .before .next-token) .ensures) ((c .before .before .before .before .before .before .before .before .before .before .before .before .next-token2) .ensures)) (omega arith) (single-keeps ((c .before .before .before .before .before .before .before .before .before .before .before .before .before .before .before .before .before .before .before .before .before .args) .depth) ((c .before .before .before .before .before .before .before .before .before .before .before .before .before .before .before .before .before .before .before .before .before .args) .s .now)) g, old-below _ _ ((c .before .before .before .before .before .before .before .before .before .before .before .before .before .before .before .before .before .before .before .before .before .args) .p) _ _ _ _ (next-made ((c .before .before .before .before .before .before .before .before .before .before .before .before .before .before .before .before .before .before .before .before .before .args) .s .now) _ ((c .before .before .before .before .before .before .before .before .before .before .before .before .next-token2) .ensures) ∙ next-made ((c .before .before .before .before .before .before .before .before .before .before .before .before .before .before .before .before .before .before .before .before .before .args) .s .now) ((c .before .before .before .before .before .before .before .before .before .before .before .before .before .before .before .before .before .before .before .before .before .args) .p) ((c .before .before .before .before .before .before .before .before .before .before .before .before .before .next-token) .ensures)) g ((c .before .before .before .before .before .before .before .before .before .before .before .before .before .before .before .before .before .before .before .before .before .args) .base) ((c .before .before .before .before .before .before .before .before .before .before .before .before .before .before .before .before .before .before .before .before .before .pre) .1 .1), below g))
 
 scripts-returns-2 : (t : ℕ) → scripts-lts.Need-returns-2 (scripts-calls t) (scripts-at t) scripts.Post
 scripts-returns-2 t c =
-    left-alone _ ((c .before .before .before .before .before .before .args) .p) ((c .before .before .before .before .before .before .args) .base) _ ((c .before .before .before .before .before .before .pre) .1 .1) (scripts-none (λ q. parseSingleNode ((c .before .before .before .before .before .before .args) .depth) ((c .before .before .before .before .before .before .args) .s .now) q) ((c .before .before .before .before .before .before .args) .s .now) ((c .before .before .before .before .before .before .args) .p) (sym ((c .before .before .script-of) .ensures) ∙ (c .enum-told) .given .1))
+    left-alone _ ((c .before .before .before .before .before .before .args) .p) ((c .before .before .before .before .before .before .args) .base) _ (scripts-none (λ q. parseSingleNode ((c .before .before .before .before .before .before .args) .depth) ((c .before .before .before .before .before .before .args) .s .now) q) ((c .before .before .before .before .before .before .args) .s .now) ((c .before .before .before .before .before .before .args) .p) (sym ((c .before .before .script-of) .ensures) ∙ (c .enum-told) .given .1))
 
 scripts-same-length-2 : (t : ℕ) → scripts-lts.Need-same-length-2 (scripts-calls t) (scripts-at t) scripts.Post
 scripts-same-length-2 t c = search needs
@@ -1772,7 +1772,7 @@ scripts-same-length-2 t c = search needs
 scripts-returns-3 : (t : ℕ) → scripts-lts.Need-returns-3 (scripts-calls t) (scripts-at t) scripts.Post
 scripts-returns-3 t c =
     let g = rw ((c .before .r) .given .1) at ((c .before .before .before .before .before .parse-single-node) .ensures) in
-    λ lo n le h. scripts-no (λ q. parseSingleNode ((c .before .before .before .before .before .before .before .before .before .before .before .before .before .before .before .before .before .before .before .before .args) .depth) ((c .before .before .before .before .before .before .before .before .before .before .before .before .before .before .before .before .before .before .before .before .args) .s .now) q) ((c .before .before .before .before .before .before .before .before .before .before .before .before .before .before .before .before .before .before .before .before .args) .s .now) ((c .before .before .before .before .before .before .before .before .before .before .before .before .before .before .before .before .before .before .before .before .args) .p) ((c .before .before .before .before .before .before .before .before .before .before .before .before .next-token) .ensures) ((c .before .before .before .before .before .before .before .before .before .before .before .next-token2) .ensures) ((c .before .before .before .before .before .before .before .before .before .before .before .before .before .before .over) .given .0 .0) (sym ((c .before .before .before .before .before .before .before .before .before .before .before .before .before .before .before .before .script-of) .ensures) ∙ (c .before .before .before .before .before .before .before .before .before .before .before .before .before .before .over) .given .1) g n
+    λ lo n h. scripts-no (λ q. parseSingleNode ((c .before .before .before .before .before .before .before .before .before .before .before .before .before .before .before .before .before .before .before .before .args) .depth) ((c .before .before .before .before .before .before .before .before .before .before .before .before .before .before .before .before .before .before .before .before .args) .s .now) q) ((c .before .before .before .before .before .before .before .before .before .before .before .before .before .before .before .before .before .before .before .before .args) .s .now) ((c .before .before .before .before .before .before .before .before .before .before .before .before .before .before .before .before .before .before .before .before .args) .p) ((c .before .before .before .before .before .before .before .before .before .before .before .before .next-token) .ensures) ((c .before .before .before .before .before .before .before .before .before .before .before .next-token2) .ensures) ((c .before .before .before .before .before .before .before .before .before .before .before .before .before .before .over) .given .0 .0) (sym ((c .before .before .before .before .before .before .before .before .before .before .before .before .before .before .before .before .script-of) .ensures) ∙ (c .before .before .before .before .before .before .before .before .before .before .before .before .before .before .over) .given .1) g n
 
 scripts-same-length-3 : (t : ℕ) → scripts-lts.Need-same-length-3 (scripts-calls t) (scripts-at t) scripts.Post
 scripts-same-length-3 t c =
@@ -1781,7 +1781,7 @@ scripts-same-length-3 t c =
 scripts-returns-4 : (t : ℕ) → scripts-lts.Need-returns-4 (scripts-calls t) (scripts-at t) scripts.Post
 scripts-returns-4 t c =
     let g = rw ((c .before .before .before .before .before .x) .given .1) at ((c .before .before .before .before .before .before .before .before .before .parse-single-node) .ensures) in
-    beside-one _ _ ((c .before .before .before .before .before .before .before .before .before .before .before .before .before .before .before .before .before .before .before .before .before .before .before .before .args) .p) _ _ _ _ (next-made ((c .before .before .before .before .before .before .before .before .before .before .before .before .before .before .before .before .before .before .before .before .before .before .before .before .args) .s .now) _ ((c .before .before .before .before .before .before .before .before .before .before .before .before .before .before .before .next-token2) .ensures) ∙ next-made ((c .before .before .before .before .before .before .before .before .before .before .before .before .before .before .before .before .before .before .before .before .before .before .before .before .args) .s .now) ((c .before .before .before .before .before .before .before .before .before .before .before .before .before .before .before .before .before .before .before .before .before .before .before .before .args) .p) ((c .before .before .before .before .before .before .before .before .before .before .before .before .before .before .before .before .next-token) .ensures)) g ((c .before .before .before .before .before .before .before .before .before .before .before .before .before .before .before .before .before .before .before .before .before .before .before .before .args) .base) ((c .before .before .before .before .before .before .before .before .before .before .before .before .before .before .before .before .before .before .before .before .before .before .before .before .pre) .1 .1) _ _ _ _ ((c .before .before .second) .result) refl ((c .before .before .second) .ensures) (scripts-is (λ q. parseSingleNode ((c .before .before .before .before .before .before .before .before .before .before .before .before .before .before .before .before .before .before .before .before .before .before .before .before .args) .depth) ((c .before .before .before .before .before .before .before .before .before .before .before .before .before .before .before .before .before .before .before .before .before .before .before .before .args) .s .now) q) ((c .before .before .before .before .before .before .before .before .before .before .before .before .before .before .before .before .before .before .before .before .before .before .before .before .args) .s .now) ((c .before .before .before .before .before .before .before .before .before .before .before .before .before .before .before .before .before .before .before .before .before .before .before .before .args) .p) ((c .before .before .before .before .before .before .before .before .before .before .before .before .before .before .before .before .next-token) .ensures) ((c .before .before .before .before .before .before .before .before .before .before .before .before .before .before .before .next-token2) .ensures) ((c .before .before .before .before .before .before .before .before .before .before .before .before .before .before .before .before .before .before .over) .given .0 .0) (sym ((c .before .before .before .before .before .before .before .before .before .before .before .before .before .before .before .before .before .before .before .before .script-of) .ensures) ∙ (c .before .before .before .before .before .before .before .before .before .before .before .before .before .before .before .before .before .before .over) .given .1) (g .is))
+    beside-one _ _ ((c .before .before .before .before .before .before .before .before .before .before .before .before .before .before .before .before .before .before .before .before .before .before .before .before .args) .p) _ _ _ _ (next-made ((c .before .before .before .before .before .before .before .before .before .before .before .before .before .before .before .before .before .before .before .before .before .before .before .before .args) .s .now) _ ((c .before .before .before .before .before .before .before .before .before .before .before .before .before .before .before .next-token2) .ensures) ∙ next-made ((c .before .before .before .before .before .before .before .before .before .before .before .before .before .before .before .before .before .before .before .before .before .before .before .before .args) .s .now) ((c .before .before .before .before .before .before .before .before .before .before .before .before .before .before .before .before .before .before .before .before .before .before .before .before .args) .p) ((c .before .before .before .before .before .before .before .before .before .before .before .before .before .before .before .before .next-token) .ensures)) g ((c .before .before .before .before .before .before .before .before .before .before .before .before .before .before .before .before .before .before .before .before .before .before .before .before .args) .base) _ _ _ _ ((c .before .before .second) .result) refl ((c .before .before .second) .ensures) (scripts-is (λ q. parseSingleNode ((c .before .before .before .before .before .before .before .before .before .before .before .before .before .before .before .before .before .before .before .before .before .before .before .before .args) .depth) ((c .before .before .before .before .before .before .before .before .before .before .before .before .before .before .before .before .before .before .before .before .before .before .before .before .args) .s .now) q) ((c .before .before .before .before .before .before .before .before .before .before .before .before .before .before .before .before .before .before .before .before .before .before .before .before .args) .s .now) ((c .before .before .before .before .before .before .before .before .before .before .before .before .before .before .before .before .before .before .before .before .before .before .before .before .args) .p) ((c .before .before .before .before .before .before .before .before .before .before .before .before .before .before .before .before .next-token) .ensures) ((c .before .before .before .before .before .before .before .before .before .before .before .before .before .before .before .next-token2) .ensures) ((c .before .before .before .before .before .before .before .before .before .before .before .before .before .before .before .before .before .before .over) .given .0 .0) (sym ((c .before .before .before .before .before .before .before .before .before .before .before .before .before .before .before .before .before .before .before .before .script-of) .ensures) ∙ (c .before .before .before .before .before .before .before .before .before .before .before .before .before .before .before .before .before .before .over) .given .1) (g .is))
 
 second-script-of-requires : (t : ℕ) → second-lts.Need-script-of-requires (second-calls t) (second-at t) second.Post
 second-script-of-requires t c κs = search needs
@@ -1804,7 +1804,7 @@ second-repeats-requires t c κs = search needs
 
 second-returns : (t : ℕ) → second-lts.Need-returns (second-calls t) (second-at t) second.Post
 second-returns t c =
-    λ lo m n le u v. second-again (λ q. parseSingleNode ((c .before .before .before .before .before .before .before .before .before .args) .depth) ((c .before .before .before .before .before .before .before .before .before .args) .s .now) q) ((c .before .before .before .before .before .before .before .before .before .args) .s .now) ((c .before .before .before .before .before .before .before .before .before .args) .p) ((c .before .before .before .before .before .before .before .before .before .args) .over) ((c .before .before .before .again) .given .0 .0) (sym ((c .before .before .before .before .before .script-of) .ensures) ∙ (c .before .before .before .again) .given .1) (sym ((c .before .repeats) .ensures) ∙ (c .if1) .taken) m n
+    λ lo m n mid u v. second-again (λ q. parseSingleNode ((c .before .before .before .before .before .before .before .before .before .args) .depth) ((c .before .before .before .before .before .before .before .before .before .args) .s .now) q) ((c .before .before .before .before .before .before .before .before .before .args) .s .now) ((c .before .before .before .before .before .before .before .before .before .args) .p) ((c .before .before .before .before .before .before .before .before .before .args) .over) ((c .before .before .before .again) .given .0 .0) (sym ((c .before .before .before .before .before .script-of) .ensures) ∙ (c .before .before .before .again) .given .1) (sym ((c .before .repeats) .ensures) ∙ (c .if1) .taken) m n
 
 second-next-token-requires : (t : ℕ) → second-lts.Need-next-token-requires (second-calls t) (second-at t) second.Post
 second-next-token-requires t c κs =
@@ -1828,7 +1828,7 @@ second-enum-known-y t c = search needs
 second-make-scripts-requires : (t : ℕ) → second-lts.Need-make-scripts-requires (second-calls t) (second-at t) second.Post
 second-make-scripts-requires t c κs =
     let g = rw ((c .before .before .y) .given .1) at ((c .before .before .before .before .before .before .parse-single-node) .ensures) in
-    (ends-free 1 (node-ends ((c .before .before .before .before .before .before .parse-single-node) .kept .1 .0) 2 (ends-script ((c .before .before .before .before .before .before .before .before .before .before .before .before .before .again) .given .0 .0) ((c .before .before .before .before .before .before .before .before .before .before .before .before .before .before .before .before .before .before .before .pre) .1 .0) (sym ((c .before .before .before .before .before .before .before .before .before .before .before .before .before .before .before .script-of) .ensures) ∙ (c .before .before .before .before .before .before .before .before .before .before .before .before .before .again) .given .1) ((c .before .before .before .before .before .before .before .before .before .next-token) .ensures) ((c .before .before .before .before .before .before .before .before .next-token2) .ensures)) (omega arith) (single-keeps ((c .before .before .before .before .before .before .before .before .before .before .before .before .before .before .before .before .before .before .before .args) .depth) ((c .before .before .before .before .before .before .before .before .before .before .before .before .before .before .before .before .before .before .before .args) .s .now)) g) (omega arith), old-below _ _ ((c .before .before .before .before .before .before .before .before .before .before .before .before .before .before .before .before .before .before .before .args) .p) _ _ _ _ (next-made ((c .before .before .before .before .before .before .before .before .before .before .before .before .before .before .before .before .before .before .before .args) .s .now) _ ((c .before .before .before .before .before .before .before .before .next-token2) .ensures) ∙ next-made ((c .before .before .before .before .before .before .before .before .before .before .before .before .before .before .before .before .before .before .before .args) .s .now) ((c .before .before .before .before .before .before .before .before .before .before .before .before .before .before .before .before .before .before .before .args) .p) ((c .before .before .before .before .before .before .before .before .before .next-token) .ensures)) g ((c .before .before .before .before .before .before .before .before .before .before .before .before .before .before .before .before .before .before .before .args) .base) ((c .before .before .before .before .before .before .before .before .before .before .before .before .before .before .before .before .before .before .before .pre) .1 .1), old-below _ _ ((c .before .before .before .before .before .before .before .before .before .before .before .before .before .before .before .before .before .before .before .args) .p) _ _ _ _ (next-made ((c .before .before .before .before .before .before .before .before .before .before .before .before .before .before .before .before .before .before .before .args) .s .now) _ ((c .before .before .before .before .before .before .before .before .next-token2) .ensures) ∙ next-made ((c .before .before .before .before .before .before .before .before .before .before .before .before .before .before .before .before .before .before .before .args) .s .now) ((c .before .before .before .before .before .before .before .before .before .before .before .before .before .before .before .before .before .before .before .args) .p) ((c .before .before .before .before .before .before .before .before .before .next-token) .ensures)) g ((c .before .before .before .before .before .before .before .before .before .before .before .before .before .before .before .before .before .before .before .args) .x) ((c .before .before .before .before .before .before .before .before .before .before .before .before .before .before .before .before .before .before .before .pre) .1 .2), g .below)
+    (ends-free 1 (node-ends ((c .before .before .before .before .before .before .parse-single-node) .kept .1 .0) 2 (ends-script ((c .before .before .before .before .before .before .before .before .before .before .before .before .before .again) .given .0 .0) ((c .before .before .before .before .before .before .before .before .before .before .before .before .before .before .before .before .before .before .before .pre) .1 .0) (sym ((c .before .before .before .before .before .before .before .before .before .before .before .before .before .before .before .script-of) .ensures) ∙ (c .before .before .before .before .before .before .before .before .before .before .before .before .before .again) .given .1) ((c .before .before .before .before .before .before .before .before .before .next-token) .ensures) ((c .before .before .before .before .before .before .before .before .next-token2) .ensures)) (omega arith) (single-keeps ((c .before .before .before .before .before .before .before .before .before .before .before .before .before .before .before .before .before .before .before .args) .depth) ((c .before .before .before .before .before .before .before .before .before .before .before .before .before .before .before .before .before .before .before .args) .s .now)) g) (omega arith), old-below _ _ ((c .before .before .before .before .before .before .before .before .before .before .before .before .before .before .before .before .before .before .before .args) .p) _ _ _ _ (next-made ((c .before .before .before .before .before .before .before .before .before .before .before .before .before .before .before .before .before .before .before .args) .s .now) _ ((c .before .before .before .before .before .before .before .before .next-token2) .ensures) ∙ next-made ((c .before .before .before .before .before .before .before .before .before .before .before .before .before .before .before .before .before .before .before .args) .s .now) ((c .before .before .before .before .before .before .before .before .before .before .before .before .before .before .before .before .before .before .before .args) .p) ((c .before .before .before .before .before .before .before .before .before .next-token) .ensures)) g ((c .before .before .before .before .before .before .before .before .before .before .before .before .before .before .before .before .before .before .before .args) .base) ((c .before .before .before .before .before .before .before .before .before .before .before .before .before .before .before .before .before .before .before .pre) .1 .1), old-below _ _ ((c .before .before .before .before .before .before .before .before .before .before .before .before .before .before .before .before .before .before .before .args) .p) _ _ _ _ (next-made ((c .before .before .before .before .before .before .before .before .before .before .before .before .before .before .before .before .before .before .before .args) .s .now) _ ((c .before .before .before .before .before .before .before .before .next-token2) .ensures) ∙ next-made ((c .before .before .before .before .before .before .before .before .before .before .before .before .before .before .before .before .before .before .before .args) .s .now) ((c .before .before .before .before .before .before .before .before .before .before .before .before .before .before .before .before .before .before .before .args) .p) ((c .before .before .before .before .before .before .before .before .before .next-token) .ensures)) g ((c .before .before .before .before .before .before .before .before .before .before .before .before .before .before .before .before .before .before .before .args) .x) ((c .before .before .before .before .before .before .before .before .before .before .before .before .before .before .before .before .before .before .before .pre) .1 .2), below g)
 
 second-same-length : (t : ℕ) → second-lts.Need-same-length (second-calls t) (second-at t) second.Post
 second-same-length t c = search needs
@@ -1843,7 +1843,7 @@ second-same-length-2 t c = search needs
 second-returns-3 : (t : ℕ) → second-lts.Need-returns-3 (second-calls t) (second-at t) second.Post
 second-returns-3 t c =
     let g = rw ((c .before .r) .given .1) at ((c .before .before .before .before .before .parse-single-node) .ensures) in
-    λ lo m n le u v. second-no (λ q. parseSingleNode ((c .before .before .before .before .before .before .before .before .before .before .before .before .before .before .before .before .before .before .args) .depth) ((c .before .before .before .before .before .before .before .before .before .before .before .before .before .before .before .before .before .before .args) .s .now) q) ((c .before .before .before .before .before .before .before .before .before .before .before .before .before .before .before .before .before .before .args) .s .now) ((c .before .before .before .before .before .before .before .before .before .before .before .before .before .before .before .before .before .before .args) .p) ((c .before .before .before .before .before .before .before .before .next-token) .ensures) ((c .before .before .before .before .before .before .before .next-token2) .ensures) ((c .before .before .before .before .before .before .before .before .before .before .before .before .before .before .before .before .before .before .args) .over) ((c .before .before .before .before .before .before .before .before .before .before .before .before .again) .given .0 .0) (sym ((c .before .before .before .before .before .before .before .before .before .before .before .before .before .before .script-of) .ensures) ∙ (c .before .before .before .before .before .before .before .before .before .before .before .before .again) .given .1) (sym ((c .before .before .before .before .before .before .before .before .before .before .repeats) .ensures) ∙ (c .before .before .before .before .before .before .before .before .before .if1) .left) g m n
+    λ lo m n mid u v. second-no (λ q. parseSingleNode ((c .before .before .before .before .before .before .before .before .before .before .before .before .before .before .before .before .before .before .args) .depth) ((c .before .before .before .before .before .before .before .before .before .before .before .before .before .before .before .before .before .before .args) .s .now) q) ((c .before .before .before .before .before .before .before .before .before .before .before .before .before .before .before .before .before .before .args) .s .now) ((c .before .before .before .before .before .before .before .before .before .before .before .before .before .before .before .before .before .before .args) .p) ((c .before .before .before .before .before .before .before .before .next-token) .ensures) ((c .before .before .before .before .before .before .before .next-token2) .ensures) ((c .before .before .before .before .before .before .before .before .before .before .before .before .before .before .before .before .before .before .args) .over) ((c .before .before .before .before .before .before .before .before .before .before .before .before .again) .given .0 .0) (sym ((c .before .before .before .before .before .before .before .before .before .before .before .before .before .before .script-of) .ensures) ∙ (c .before .before .before .before .before .before .before .before .before .before .before .before .again) .given .1) (sym ((c .before .before .before .before .before .before .before .before .before .before .repeats) .ensures) ∙ (c .before .before .before .before .before .before .before .before .before .if1) .left) g m n
 
 second-same-length-3 : (t : ℕ) → second-lts.Need-same-length-3 (second-calls t) (second-at t) second.Post
 second-same-length-3 t c =
@@ -1852,7 +1852,7 @@ second-same-length-3 t c =
 second-returns-4 : (t : ℕ) → second-lts.Need-returns-4 (second-calls t) (second-at t) second.Post
 second-returns-4 t c =
     let g = rw ((c .before .before .before .before .before .y) .given .1) at ((c .before .before .before .before .before .before .before .before .before .parse-single-node) .ensures) in
-    beside-two _ _ ((c .before .before .before .before .before .before .before .before .before .before .before .before .before .before .before .before .before .before .before .before .before .before .args) .p) _ _ _ _ (next-made ((c .before .before .before .before .before .before .before .before .before .before .before .before .before .before .before .before .before .before .before .before .before .before .args) .s .now) _ ((c .before .before .before .before .before .before .before .before .before .before .before .next-token2) .ensures) ∙ next-made ((c .before .before .before .before .before .before .before .before .before .before .before .before .before .before .before .before .before .before .before .before .before .before .args) .s .now) ((c .before .before .before .before .before .before .before .before .before .before .before .before .before .before .before .before .before .before .before .before .before .before .args) .p) ((c .before .before .before .before .before .before .before .before .before .before .before .before .next-token) .ensures)) g ((c .before .before .before .before .before .before .before .before .before .before .before .before .before .before .before .before .before .before .before .before .before .before .args) .base) ((c .before .before .before .before .before .before .before .before .before .before .before .before .before .before .before .before .before .before .before .before .before .before .args) .x) ((c .before .before .before .before .before .before .before .before .before .before .before .before .before .before .before .before .before .before .before .before .before .before .pre) .1 .1) ((c .before .before .before .before .before .before .before .before .before .before .before .before .before .before .before .before .before .before .before .before .before .before .pre) .1 .2) _ _ _ _ ((c .before .before .make-scripts) .result) refl ((c .before .before .make-scripts) .ensures) (second-is (λ q. parseSingleNode ((c .before .before .before .before .before .before .before .before .before .before .before .before .before .before .before .before .before .before .before .before .before .before .args) .depth) ((c .before .before .before .before .before .before .before .before .before .before .before .before .before .before .before .before .before .before .before .before .before .before .args) .s .now) q) ((c .before .before .before .before .before .before .before .before .before .before .before .before .before .before .before .before .before .before .before .before .before .before .args) .s .now) ((c .before .before .before .before .before .before .before .before .before .before .before .before .before .before .before .before .before .before .before .before .before .before .args) .p) ((c .before .before .before .before .before .before .before .before .before .before .before .before .next-token) .ensures) ((c .before .before .before .before .before .before .before .before .before .before .before .next-token2) .ensures) ((c .before .before .before .before .before .before .before .before .before .before .before .before .before .before .before .before .before .before .before .before .before .before .args) .over) ((c .before .before .before .before .before .before .before .before .before .before .before .before .before .before .before .before .again) .given .0 .0) (sym ((c .before .before .before .before .before .before .before .before .before .before .before .before .before .before .before .before .before .before .script-of) .ensures) ∙ (c .before .before .before .before .before .before .before .before .before .before .before .before .before .before .before .before .again) .given .1) (sym ((c .before .before .before .before .before .before .before .before .before .before .before .before .before .before .repeats) .ensures) ∙ (c .before .before .before .before .before .before .before .before .before .before .before .before .before .if1) .left) (g .is))
+    beside-two _ _ ((c .before .before .before .before .before .before .before .before .before .before .before .before .before .before .before .before .before .before .before .before .before .before .args) .p) _ _ _ _ (next-made ((c .before .before .before .before .before .before .before .before .before .before .before .before .before .before .before .before .before .before .before .before .before .before .args) .s .now) _ ((c .before .before .before .before .before .before .before .before .before .before .before .next-token2) .ensures) ∙ next-made ((c .before .before .before .before .before .before .before .before .before .before .before .before .before .before .before .before .before .before .before .before .before .before .args) .s .now) ((c .before .before .before .before .before .before .before .before .before .before .before .before .before .before .before .before .before .before .before .before .before .before .args) .p) ((c .before .before .before .before .before .before .before .before .before .before .before .before .next-token) .ensures)) g ((c .before .before .before .before .before .before .before .before .before .before .before .before .before .before .before .before .before .before .before .before .before .before .args) .base) ((c .before .before .before .before .before .before .before .before .before .before .before .before .before .before .before .before .before .before .before .before .before .before .args) .x) _ _ _ _ ((c .before .before .make-scripts) .result) refl ((c .before .before .make-scripts) .ensures) (second-is (λ q. parseSingleNode ((c .before .before .before .before .before .before .before .before .before .before .before .before .before .before .before .before .before .before .before .before .before .before .args) .depth) ((c .before .before .before .before .before .before .before .before .before .before .before .before .before .before .before .before .before .before .before .before .before .before .args) .s .now) q) ((c .before .before .before .before .before .before .before .before .before .before .before .before .before .before .before .before .before .before .before .before .before .before .args) .s .now) ((c .before .before .before .before .before .before .before .before .before .before .before .before .before .before .before .before .before .before .before .before .before .before .args) .p) ((c .before .before .before .before .before .before .before .before .before .before .before .before .next-token) .ensures) ((c .before .before .before .before .before .before .before .before .before .before .before .next-token2) .ensures) ((c .before .before .before .before .before .before .before .before .before .before .before .before .before .before .before .before .before .before .before .before .before .before .args) .over) ((c .before .before .before .before .before .before .before .before .before .before .before .before .before .before .before .before .again) .given .0 .0) (sym ((c .before .before .before .before .before .before .before .before .before .before .before .before .before .before .before .before .before .before .script-of) .ensures) ∙ (c .before .before .before .before .before .before .before .before .before .before .before .before .before .before .before .before .again) .given .1) (sym ((c .before .before .before .before .before .before .before .before .before .before .before .before .before .before .repeats) .ensures) ∙ (c .before .before .before .before .before .before .before .before .before .before .before .before .before .if1) .left) (g .is))
 
 pub +parse-bare+parse-begin+parse-brace+parse-group+parse-left+parse-lim+parse-limits+parse-middle+parse-node+parse-one+parse-single-node+parse-slashed+parse-sqrt+parse-style+parse-two+scripts+second-spec :
     {M : Type 1} → statement M

@@ -1,6 +1,6 @@
 -- `parse::finish_prime` meets its contract.
 -- Assumes nothing.
-use mathlib.Core.Path.{sym, _∙_}
+use mathlib.Core.Path.{refl, sym, _∙_}
 use Rattle.parse.proofs.RoomLaws.{next-made, next-free}
 use Rattle.parse.proofs.SeqLaws.{after-prime, left-alone}
 use Rattle.parse.proofs.WayLaws.{prime-is, prime-none}
@@ -24,7 +24,7 @@ make-leaf-second-requires : tie.Need-make-leaf-second-requires
 make-leaf-second-requires c κs =
     let n = next-made ((c .before .before .before .before .before .before .args) .s .now) ((c .before .before .before .before .before .before .args) .p) ((c .before .next-token) .ensures) in
     let b = (c .before .before .before .before .before .before .pre) .2 in
-    (next-free ((c .before .before .before .before .before .before .args) .s .now) ((c .before .before .before .before .before .before .args) .p) ((c .before .next-token) .ensures) ((c .before .before .before .before .before .before .pre) .1 (sym ((c .before .before .before .peek-token-is) .ensures) ∙ (c .before .before .if1) .taken)), tt, omega arith)
+    (next-free ((c .before .before .before .before .before .before .args) .s .now) ((c .before .before .before .before .before .before .args) .p) ((c .before .next-token) .ensures) ((c .before .before .before .before .before .before .pre) .1 (sym ((c .before .before .before .peek-token-is) .ensures) ∙ (c .before .before .if1) .taken)), tt, omega arith, refl)
 
 same-length : tie.Need-same-length
 same-length c = search needs
@@ -35,7 +35,7 @@ returns c =
 
 returns-2 : tie.Need-returns-2
 returns-2 c =
-    left-alone _ ((c .before .before .before .before .args) .p) _ _ ((c .before .before .before .before .pre) .2) (λ n. prime-none ((c .before .before .before .before .args) .s .now) n ((c .before .before .before .before .args) .p) (sym ((c .before .peek-token-is) .ensures) ∙ (c .if1) .left))
+    left-alone _ ((c .before .before .before .before .args) .p) _ _ (λ n. prime-none ((c .before .before .before .before .args) .s .now) n ((c .before .before .before .before .args) .p) (sym ((c .before .peek-token-is) .ensures) ∙ (c .if1) .left))
 
 pub finish-prime-spec : {M : Type 1} → statement M
 finish-prime-spec =

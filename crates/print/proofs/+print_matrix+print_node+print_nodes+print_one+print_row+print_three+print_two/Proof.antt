@@ -308,11 +308,11 @@ print-node-returns-6 t c =
     prints-like (of-kind ((c .before .before .before .before .before .before .before .before .before .before .before .before .args) .place) (Shape.Matrix _ _) ((c .before .before .before .before .before .before .before .before .get-record) .ensures .0) ((c .before .before .before .before .before .before .before .shape-of) .ensures) ((c .before .before .before .before .before .align) .given .1)) ((c .before .before .print-matrix) .ensures)
 
 abbrev print-nodes-Inv-loop : print-nodes-lts.InvT-loop
-print-nodes-Inv-loop place s store a n left out₀ at write table i₀ todo₀ end₀ out i todo end =
-    (length out ≡ length out₀) × Going s store left place write a n out₀ at i todo out end
+print-nodes-Inv-loop place s store a n left out₀ at table i₀ todo₀ end₀ out i todo end =
+    (length out ≡ length out₀) × Going s store left place a n out₀ at i todo out end
 
 abbrev print-nodes-μ-loop : print-nodes-lts.MeasureT-loop
-print-nodes-μ-loop place s store a n left out₀ at write table i₀ todo₀ end₀ out i todo end = todo
+print-nodes-μ-loop place s store a n left out₀ at table i₀ todo₀ end₀ out i todo end = todo
 
 print-nodes-loop-holds : (t : ℕ) → print-nodes-lts.Need-loop-holds (print-nodes-calls t) (print-nodes-at t) print-nodes.Post print-nodes-Inv-loop print-nodes-μ-loop
 print-nodes-loop-holds t c = (refl, going-start ((c .before .before .before .pre) .1 .0))

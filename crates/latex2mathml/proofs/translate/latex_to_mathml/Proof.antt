@@ -4,13 +4,14 @@ use mathlib.Core.Path.{refl, sym, _∙_}
 use lib.ListN.{length}
 use borrow.Author.Tests.{not-true, not-false}
 use Rattle.latex2mathml.proofs.TranslateLaws.{too-long, ill-formed, nul-byte, body-no, gives-nothing}
-use Rattle.latex2mathml.proofs.BodyLaws.{few-nodes, able-count, able-write, too-large, written}
+use Rattle.latex2mathml.proofs.BodyLaws.{few-nodes, measurable, able-write, too-large, written}
 use borrow.Author.Needs.{needs}
 use native.Mathlib.Omega.{arith}
 use Rattle.latex2mathml.proofs.translate.latex_to_mathml.Statement.{statement}
 use Rattle.latex2mathml.proofs.translate.latex_to_mathml.Tie as tie
 use Rattle.latex2mathml.proofs.translate.latex_to_mathml.Reads as reads
 use Rattle.latex2mathml.proofs.translate.latex_to_mathml.Lts as lts
+use Rattle.latex2mathml.proofs.translate.math_len.Reads as math-len-reads
 use Rattle.latex2mathml.proofs.translate.put_math.Reads as put-math-reads
 use Rattle.parse.proofs.body.parse.Reads as parse-reads
 use Rattle.text.proofs.has_nul.Reads as has-nul-reads
@@ -56,30 +57,27 @@ cast-n c =
     let f = few-nodes (length ((c .before .before .before .before .before .before .before .before .before .before .before .before .before .before .before .before .before .args) .store .now)) b ((c .before .before .before .before .before .before .before .before .before .before .before .before .before .if1) .left) in
     omega arith
 
-put-math-requires : tie.Need-put-math-requires
-put-math-requires c κs =
-    let b = rw ((c .before .before .before .before .first) .given .1) at ((c .before .before .before .before .before .before .before .before .parse) .ensures) in
-    (able-count (length ((c .before .before .before .before .before .before .before .before .before .before .before .before .before .before .before .before .before .before .before .before .args) .store .now)) b ((c .before .before .before .before .before .before .before .before .before .before .before .before .before .before .before .before .before .before .before .before .args) .display) ((c .before .before .before .before .before .before .before .before .before .before .before .before .before .before .before .before .if1) .left) _, (c .before .before .before .before .before .before .before .before .before .before .before .table) .ensures)
+math-len-requires : tie.Need-math-len-requires
+math-len-requires c κs =
+    let b = rw ((c .before .before .before .first) .given .1) at ((c .before .before .before .before .before .before .before .parse) .ensures) in
+    (measurable (length ((c .before .before .before .before .before .before .before .before .before .before .before .before .before .before .before .before .before .before .before .args) .store .now)) b ((c .before .before .before .before .before .before .before .before .before .before .before .before .before .before .before .before .before .before .before .args) .display) ((c .before .before .before .before .before .before .before .before .before .before .before .before .before .before .before .if1) .left), (c .before .before .before .before .before .before .before .before .before .before .table) .ensures)
 
 same-length : tie.Need-same-length
 same-length c = search needs
 
-same-length-2 : tie.Need-same-length-2
-same-length-2 c = search needs
-
 returns-4 : tie.Need-returns-4
 returns-4 c =
+    let b = rw ((c .before .before .before .before .before .first) .given .1) at ((c .before .before .before .before .before .before .before .before .before .parse) .ensures) in
+    let g = too-large (length ((c .before .before .before .before .before .before .before .before .before .before .before .before .before .before .before .before .before .before .before .before .before .args) .store .now)) b ((c .before .before .before .before .before .before .before .before .before .before .before .before .before .before .before .before .before .before .before .before .before .args) .display) ((c .before .before .before .before .before .before .before .before .before .before .before .before .before .before .before .before .before .if1) .left) ((c .before .math-len) .ensures) (sym ((c .before .before .before .before .before .before .before .before .before .before .before .before .before .before .before .before .well-formed) .ensures) ∙ not-false _ ((c .before .before .before .before .before .before .before .before .before .before .before .before .before .before .before .if2) .left)) (sym ((c .before .before .before .before .before .before .before .before .before .before .before .before .before .before .has-nul) .ensures) ∙ (c .before .before .before .before .before .before .before .before .before .before .before .before .before .if3) .left) ((c .if4) .taken) in
+    (g, (c .before .before .before .before .before .before .before .before .before .parse) .kept .1 .0)
+
+put-math-requires : tie.Need-put-math-requires
+put-math-requires c κs =
     let b = rw ((c .before .before .before .before .before .before .before .before .first) .given .1) at ((c .before .before .before .before .before .before .before .before .before .before .before .before .parse) .ensures) in
-    let g = too-large (length ((c .before .before .before .before .before .before .before .before .before .before .before .before .before .before .before .before .before .before .before .before .before .before .before .before .args) .store .now)) b ((c .before .before .before .before .before .before .before .before .before .before .before .before .before .before .before .before .before .before .before .before .before .before .before .before .args) .display) ((c .before .before .before .before .before .before .before .before .before .before .before .before .before .before .before .before .before .before .before .before .if1) .left) ((c .before .before .before .put-math) .ensures) (sym ((c .before .before .before .before .before .before .before .before .before .before .before .before .before .before .before .before .before .before .before .well-formed) .ensures) ∙ not-false _ ((c .before .before .before .before .before .before .before .before .before .before .before .before .before .before .before .before .before .before .if2) .left)) (sym ((c .before .before .before .before .before .before .before .before .before .before .before .before .before .before .before .before .before .has-nul) .ensures) ∙ (c .before .before .before .before .before .before .before .before .before .before .before .before .before .before .before .before .if3) .left) ((c .if4) .taken) in
-    (g, (c .before .before .before .before .before .before .before .before .before .before .before .before .parse) .kept .1 .0)
+    (able-write (length ((c .before .before .before .before .before .before .before .before .before .before .before .before .before .before .before .before .before .before .before .before .before .before .before .before .args) .store .now)) b ((c .before .before .before .before .before .before .before .before .before .before .before .before .before .before .before .before .before .before .before .before .before .before .before .before .args) .display) ((c .before .before .before .before .before .before .before .before .before .before .before .before .before .before .before .before .before .before .before .before .if1) .left) ((c .before .before .before .before .math-len) .ensures) ((c .before .before .before .before .before .before .before .before .before .before .before .before .before .before .before .before .before .before .before .before .before .before .before .before .args) .out .now) ((c .before .before .before .if4) .left), (c .before .before .before .before .before .before .before .before .before .before .before .before .before .before .before .table) .ensures)
 
-put-math-requires-2 : tie.Need-put-math-requires-2
-put-math-requires-2 c κs =
-    let b = rw ((c .before .before .before .before .before .before .before .before .before .before .before .first) .given .1) at ((c .before .before .before .before .before .before .before .before .before .before .before .before .before .before .before .parse) .ensures) in
-    (able-write (length ((c .before .before .before .before .before .before .before .before .before .before .before .before .before .before .before .before .before .before .before .before .before .before .before .before .before .before .before .args) .store .now)) b ((c .before .before .before .before .before .before .before .before .before .before .before .before .before .before .before .before .before .before .before .before .before .before .before .before .before .before .before .args) .display) ((c .before .before .before .before .before .before .before .before .before .before .before .before .before .before .before .before .before .before .before .before .before .before .before .if1) .left) ((c .before .before .before .before .before .before .put-math) .ensures) ((c .before .before .before .if4) .left), (c .before .before .before .before .before .before .before .before .before .before .before .before .before .before .before .before .before .before .table) .ensures)
-
-same-length-3 : tie.Need-same-length-3
-same-length-3 c = search needs
+same-length-2 : tie.Need-same-length-2
+same-length-2 c = search needs
 
 returns-5 : tie.Need-returns-5
 returns-5 c =
@@ -87,17 +85,17 @@ returns-5 c =
     let g = gives-nothing ((c .before .before .before .before .before .before .before .before .before .before .before .before .before .before .before .before .before .args) .out .now) (body-no ((c .before .before .before .before .before .before .before .before .before .before .before .before .before .before .before .before .before .args) .s .now) ((c .before .before .before .before .before .before .before .before .before .before .before .before .before .before .before .before .before .args) .display) (length ((c .before .before .before .before .before .before .before .before .before .before .before .before .before .before .before .before .before .args) .store .now)) (length ((c .before .before .before .before .before .before .before .before .before .before .before .before .before .before .before .before .before .args) .out .now)) ((c .before .before .before .before .before .before .before .before .before .before .before .before .before .if1) .left) (sym ((c .before .before .before .before .before .before .before .before .before .before .before .before .well-formed) .ensures) ∙ not-false _ ((c .before .before .before .before .before .before .before .before .before .before .before .if2) .left)) (sym ((c .before .before .before .before .before .before .before .before .before .before .has-nul) .ensures) ∙ (c .before .before .before .before .before .before .before .before .before .if3) .left) b) in
     (g, (c .before .before .before .before .before .parse) .kept .1 .0)
 
+same-length-3 : tie.Need-same-length-3
+same-length-3 c = search needs
+
 same-length-4 : tie.Need-same-length-4
 same-length-4 c = search needs
 
-same-length-5 : tie.Need-same-length-5
-same-length-5 c = search needs
-
 returns-6 : tie.Need-returns-6
 returns-6 c =
-    let b = rw ((c .before .before .before .before .before .before .before .before .before .before .before .before .before .before .first) .given .1) at ((c .before .before .before .before .before .before .before .before .before .before .before .before .before .before .before .before .before .before .parse) .ensures) in
-    let g = written (length ((c .before .before .before .before .before .before .before .before .before .before .before .before .before .before .before .before .before .before .before .before .before .before .before .before .before .before .before .before .before .before .args) .store .now)) b ((c .before .before .before .before .before .before .before .before .before .before .before .before .before .before .before .before .before .before .before .before .before .before .before .before .before .before .before .before .before .before .args) .display) ((c .before .before .before .before .before .before .before .before .before .before .before .before .before .before .before .before .before .before .before .before .before .before .before .before .before .before .if1) .left) ((c .before .before .before .before .before .before .before .before .before .put-math) .ensures) (sym ((c .before .before .before .before .before .before .before .before .before .before .before .before .before .before .before .before .before .before .before .before .before .before .before .before .before .well-formed) .ensures) ∙ not-false _ ((c .before .before .before .before .before .before .before .before .before .before .before .before .before .before .before .before .before .before .before .before .before .before .before .before .if2) .left)) (sym ((c .before .before .before .before .before .before .before .before .before .before .before .before .before .before .before .before .before .before .before .before .before .before .before .has-nul) .ensures) ∙ (c .before .before .before .before .before .before .before .before .before .before .before .before .before .before .before .before .before .before .before .before .before .before .if3) .left) ((c .before .before .before .before .before .before .if4) .left) ((c .before .before .put-math2) .ensures) in
-    (g, (c .before .before .before .before .before .before .before .before .before .before .before .before .before .before .before .before .before .before .parse) .kept .1 .0)
+    let b = rw ((c .before .before .before .before .before .before .before .before .before .before .before .first) .given .1) at ((c .before .before .before .before .before .before .before .before .before .before .before .before .before .before .before .parse) .ensures) in
+    let g = written (length ((c .before .before .before .before .before .before .before .before .before .before .before .before .before .before .before .before .before .before .before .before .before .before .before .before .before .before .before .args) .store .now)) b ((c .before .before .before .before .before .before .before .before .before .before .before .before .before .before .before .before .before .before .before .before .before .before .before .before .before .before .before .args) .display) ((c .before .before .before .before .before .before .before .before .before .before .before .before .before .before .before .before .before .before .before .before .before .before .before .if1) .left) ((c .before .before .before .before .before .before .before .math-len) .ensures) (sym ((c .before .before .before .before .before .before .before .before .before .before .before .before .before .before .before .before .before .before .before .before .before .before .well-formed) .ensures) ∙ not-false _ ((c .before .before .before .before .before .before .before .before .before .before .before .before .before .before .before .before .before .before .before .before .before .if2) .left)) (sym ((c .before .before .before .before .before .before .before .before .before .before .before .before .before .before .before .before .before .before .before .before .has-nul) .ensures) ∙ (c .before .before .before .before .before .before .before .before .before .before .before .before .before .before .before .before .before .before .before .if3) .left) ((c .before .before .before .before .before .before .if4) .left) ((c .before .before .put-math) .ensures) in
+    (g, (c .before .before .before .before .before .before .before .before .before .before .before .before .before .before .before .parse) .kept .1 .0)
 
 pub latex-to-mathml-spec : {M : Type 1} → statement M
 latex-to-mathml-spec =
@@ -113,13 +111,12 @@ latex-to-mathml-spec =
     enum-known-r
     enum-known-first
     cast-n
-    put-math-requires
+    math-len-requires
     same-length
-    same-length-2
     returns-4
-    put-math-requires-2
-    same-length-3
+    put-math-requires
+    same-length-2
     returns-5
+    same-length-3
     same-length-4
-    same-length-5
     returns-6)

@@ -81,7 +81,7 @@ same-length c = search needs
 
 returns : tie.Need-returns
 returns c =
-    rw ((c .before .enum-told) .given .1) (binomial-made ((c .before .before .before .before .before .before .before .before .before .before .before .before .before .before .args) .p) ((c .before .before .before .before .before .before .before .before .before .before .before .before .before .before .args) .a) ((c .before .before .before .before .before .before .before .before .before .before .before .before .before .before .args) .b) (rw ((c .before .before .before .before .before .before .before .before .before .before .before .two-fields) .ensures) at ((c .before .before .before .before .before .before .before .before .before .before .put-node) .ensures)) (rw ((c .before .before .before .before .before .before .one-fields) .ensures) at ((c .before .before .before .before .before .put-node2) .ensures)) ((c .before .before .before .before .before .before .before .before .before .before .before .before .before .before .pre) .1) ((c .before .before .before .before .before .before .before .before .before .before .before .before .before .before .pre) .2) ((c .done) .ensures))
+    rw ((c .before .enum-told) .given .1) (binomial-made ((c .before .before .before .before .before .before .before .before .before .before .before .before .before .before .args) .p) ((c .before .before .before .before .before .before .before .before .before .before .before .before .before .before .args) .a) ((c .before .before .before .before .before .before .before .before .before .before .before .before .before .before .args) .b) (rw ((c .before .before .before .before .before .before .before .before .before .before .before .two-fields) .ensures) at ((c .before .before .before .before .before .before .before .before .before .before .put-node) .ensures)) (rw ((c .before .before .before .before .before .before .one-fields) .ensures) at ((c .before .before .before .before .before .put-node2) .ensures)) ((c .done) .ensures))
 
 same-length-2 : tie.Need-same-length-2
 same-length-2 c =
@@ -89,7 +89,7 @@ same-length-2 c =
 
 returns-2 : tie.Need-returns-2
 returns-2 c =
-    rw ((c .before .before .before .before .before .before .before .before .before .before .before .before .d) .given .1) (styled-made ((c .before .before .before .before .before .before .before .before .before .before .before .before .before .before .before .before .before .before .before .before .before .before .before .before .before .args) .p) ((c .before .before .before .before .before .before .before .before .before .before .before .before .before .before .before .before .before .before .before .before .before .before .before .before .before .args) .a) ((c .before .before .before .before .before .before .before .before .before .before .before .before .before .before .before .before .before .before .before .before .before .before .before .before .before .args) .b) (rw ((c .before .before .before .before .before .before .before .before .before .before .before .before .before .before .before .before .before .before .before .before .before .before .two-fields) .ensures) at ((c .before .before .before .before .before .before .before .before .before .before .before .before .before .before .before .before .before .before .before .before .before .put-node) .ensures)) (rw ((c .before .before .before .before .before .before .before .before .before .before .before .before .before .before .before .before .before .one-fields) .ensures) at ((c .before .before .before .before .before .before .before .before .before .before .before .before .before .before .before .before .put-node2) .ensures)) ((c .before .before .before .before .before .before .before .before .before .before .before .before .before .before .before .before .before .before .before .before .before .before .before .before .before .pre) .1) ((c .before .before .before .before .before .before .before .before .before .before .before .before .before .before .before .before .before .before .before .before .before .before .before .before .before .pre) .2) ((c .before .before .before .before .before .before .before .before .before .before .before .before .d) .given .0 .0) (rw ((c .before .before .before .before .before .before .before .before .before .row-fields) .ensures) at ((c .before .before .before .before .before .before .before .before .put-node3) .ensures)) (rw ((c .before .before .before .before .one-fields2) .ensures) at ((c .before .before .before .put-node4) .ensures)) ((c .done2) .ensures))
+    rw ((c .before .before .before .before .before .before .before .before .before .before .before .before .d) .given .1) (styled-made ((c .before .before .before .before .before .before .before .before .before .before .before .before .before .before .before .before .before .before .before .before .before .before .before .before .before .args) .p) ((c .before .before .before .before .before .before .before .before .before .before .before .before .before .before .before .before .before .before .before .before .before .before .before .before .before .args) .a) ((c .before .before .before .before .before .before .before .before .before .before .before .before .before .before .before .before .before .before .before .before .before .before .before .before .before .args) .b) (rw ((c .before .before .before .before .before .before .before .before .before .before .before .before .before .before .before .before .before .before .before .before .before .before .two-fields) .ensures) at ((c .before .before .before .before .before .before .before .before .before .before .before .before .before .before .before .before .before .before .before .before .before .put-node) .ensures)) (rw ((c .before .before .before .before .before .before .before .before .before .before .before .before .before .before .before .before .before .one-fields) .ensures) at ((c .before .before .before .before .before .before .before .before .before .before .before .before .before .before .before .before .put-node2) .ensures)) ((c .before .before .before .before .before .before .before .before .before .before .before .before .d) .given .0 .0) (rw ((c .before .before .before .before .before .before .before .before .before .row-fields) .ensures) at ((c .before .before .before .before .before .before .before .before .put-node3) .ensures)) (rw ((c .before .before .before .before .one-fields2) .ensures) at ((c .before .before .before .put-node4) .ensures)) ((c .done2) .ensures))
 
 pub make-binom-spec : {M : Type 1} → statement M
 make-binom-spec =

@@ -2,6 +2,7 @@
 -- Assumes nothing.
 use Rattle.parser.proofs.MakeLaws.{both-made}
 use Rattle.ast.specs.declared.Leaf.{Leaf}
+use mathlib.Core.Path.{refl}
 use borrow.Author.Needs.{needs}
 use native.Mathlib.Omega.{arith}
 use Rattle.parser.proofs.make.make_both.Statement.{statement}
@@ -36,7 +37,7 @@ same-length c = search needs
 
 returns : tie.Need-returns
 returns c =
-    both-made ((c .before .before .before .before .before .before .before .before .before .before .before .before .args) .p) ((c .done) .ensures) (Leaf.Operator ((c .before .before .before .before .before .before .before .before .before .before .before .before .args) .c)) (rw ((c .before .before .before .before .before .before .before .before .before .leaf-fields) .ensures) at ((c .before .before .before .before .before .before .before .before .put-node) .ensures)) ((c .before .before .before .before .before .before .before .before .before .before .before .before .args) .k) ((c .before .before .before .before .before .before .before .before .before .before .before .before .args) .x) ((c .before .before .before .before .before .before .before .before .before .before .before .before .args) .y) (rw ((c .before .before .before .before .three-fields) .ensures) at ((c .before .before .before .put-node2) .ensures)) ((c .before .before .before .before .before .before .before .before .before .before .before .before .pre) .1) ((c .before .before .before .before .before .before .before .before .before .before .before .before .pre) .2)
+    both-made ((c .before .before .before .before .before .before .before .before .before .before .before .before .args) .p) ((c .done) .ensures) (Leaf.Operator ((c .before .before .before .before .before .before .before .before .before .before .before .before .args) .c)) refl (rw ((c .before .before .before .before .before .before .before .before .before .leaf-fields) .ensures) at ((c .before .before .before .before .before .before .before .before .put-node) .ensures)) ((c .before .before .before .before .before .before .before .before .before .before .before .before .args) .k) ((c .before .before .before .before .before .before .before .before .before .before .before .before .args) .x) ((c .before .before .before .before .before .before .before .before .before .before .before .before .args) .y) (rw ((c .before .before .before .before .three-fields) .ensures) at ((c .before .before .before .put-node2) .ensures))
 
 pub make-both-spec : {M : Type 1} → statement M
 make-both-spec =

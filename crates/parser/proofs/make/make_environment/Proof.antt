@@ -32,14 +32,14 @@ same-length c = search needs
 
 returns : tie.Need-returns
 returns c =
-    opened-row ((c .before .before .before .before .before .before .before .before .before .before .before .args) .store .now) ((c .before .before .before .before .before .before .before .before .before .before .before .args) .content) ((c .before .before .before .before .before .before .before .before .get-record) .ensures .0) ((c .before .before .before .before .before .before .before .role-of) .ensures) ((c .before .before .make-matrix) .last .0) ((c .before .before .before .before .before .before .before .before .before .before .before .args) .p) ((c .before .before .make-matrix) .result) (λ ns. inEnvironment ((c .before .before .before .before .before .before .before .before .before .before .before .args) .env) ns ((c .before .before .before .before .before .before .before .before .before .before .before .args) .p)) ((c .before .before .before .before .before .n) .given .0 .0) ((c .before .before .before .before .before .n) .given .1) ((c .before .before .before .before .before .before .before .before .before .before .before .pre) .1) ((c .before .before .make-matrix) .ensures)
+    opened-row ((c .before .before .before .before .before .before .before .before .before .before .before .args) .store .now) ((c .before .before .before .before .before .before .before .before .before .before .before .args) .content) ((c .before .before .before .before .before .before .before .before .get-record) .ensures .0) ((c .before .before .before .before .before .before .before .role-of) .ensures) ((c .before .before .make-matrix) .last .0) ((c .before .before .before .before .before .before .before .before .before .before .before .args) .p) ((c .before .before .make-matrix) .result) (λ ns. inEnvironment ((c .before .before .before .before .before .before .before .before .before .before .before .args) .env) ns ((c .before .before .before .before .before .before .before .before .before .before .before .args) .p)) ((c .before .before .before .before .before .n) .given .0 .0) ((c .before .before .before .before .before .n) .given .1) ((c .before .before .make-matrix) .ensures)
 
 same-length-2 : tie.Need-same-length-2
 same-length-2 c = search needs
 
 returns-2 : tie.Need-returns-2
 returns-2 c =
-    opened-other ((c .before .before .before .before .before .before .before .before .before .args) .store .now) ((c .before .before .before .before .before .before .before .before .before .args) .content) ((c .before .before .before .before .before .before .get-record) .ensures .0) ((c .before .before .before .before .before .role-of) .ensures) ((c .before .before .make-matrix2) .last .0) ((c .before .before .before .before .before .before .before .before .before .args) .p) ((c .before .before .make-matrix2) .result) (λ ns. inEnvironment ((c .before .before .before .before .before .before .before .before .before .args) .env) ns ((c .before .before .before .before .before .before .before .before .before .args) .p)) ((c .before .before .before .before .match) .keys2) ((c .before .before .before .before .before .before .before .before .before .pre) .1) ((c .before .before .make-matrix2) .ensures)
+    opened-other ((c .before .before .before .before .before .before .before .before .before .args) .store .now) ((c .before .before .before .before .before .before .before .before .before .args) .content) ((c .before .before .before .before .before .before .get-record) .ensures .0) ((c .before .before .before .before .before .role-of) .ensures) ((c .before .before .make-matrix2) .last .0) ((c .before .before .before .before .before .before .before .before .before .args) .p) ((c .before .before .make-matrix2) .result) (λ ns. inEnvironment ((c .before .before .before .before .before .before .before .before .before .args) .env) ns ((c .before .before .before .before .before .before .before .before .before .args) .p)) ((c .before .before .before .before .match) .keys2) ((c .before .before .make-matrix2) .ensures)
 
 pub make-environment-spec : {M : Type 1} → statement M
 make-environment-spec =

@@ -2,6 +2,7 @@
 -- Assumes nothing.
 use Rattle.parser.proofs.MakeLaws.{explained-made}
 use Rattle.ast.specs.declared.Leaf.{Leaf}
+use mathlib.Core.Path.{refl}
 use borrow.Author.Needs.{needs}
 use native.Mathlib.Omega.{arith}
 use Rattle.parser.proofs.make.make_explained.Statement.{statement}
@@ -48,7 +49,7 @@ same-length c = search needs
 
 returns : tie.Need-returns
 returns c =
-    explained-made ((c .before .before .before .before .before .before .before .before .before .before .before .before .before .before .before .before .before .args) .p) ((c .done) .ensures) (Leaf.Operator ((c .before .before .before .before .before .before .before .before .before .before .before .before .before .before .before .before .before .args) .x)) ((c .before .before .before .before .before .before .before .before .before .before .before .before .before .before .before .before .before .args) .k) ((c .before .before .before .before .before .before .before .before .before .before .before .before .before .before .before .before .before .args) .target) ((c .before .before .before .before .before .before .before .before .before .before .before .before .before .before .before .before .before .args) .expl) (rw ((c .before .before .before .before .before .before .before .before .before .before .before .before .before .before .leaf-fields) .ensures) at ((c .before .before .before .before .before .before .before .before .before .before .before .before .before .put-node) .ensures)) (rw ((c .before .before .before .before .before .before .before .before .before .two-fields) .ensures) at ((c .before .before .before .before .before .before .before .before .put-node2) .ensures)) (rw ((c .before .before .before .before .two-fields2) .ensures) at ((c .before .before .before .put-node3) .ensures)) ((c .before .before .before .before .before .before .before .before .before .before .before .before .before .before .before .before .before .pre) .1) ((c .before .before .before .before .before .before .before .before .before .before .before .before .before .before .before .before .before .pre) .2)
+    explained-made ((c .before .before .before .before .before .before .before .before .before .before .before .before .before .before .before .before .before .args) .p) ((c .done) .ensures) (Leaf.Operator ((c .before .before .before .before .before .before .before .before .before .before .before .before .before .before .before .before .before .args) .x)) refl ((c .before .before .before .before .before .before .before .before .before .before .before .before .before .before .before .before .before .args) .k) ((c .before .before .before .before .before .before .before .before .before .before .before .before .before .before .before .before .before .args) .target) ((c .before .before .before .before .before .before .before .before .before .before .before .before .before .before .before .before .before .args) .expl) (rw ((c .before .before .before .before .before .before .before .before .before .before .before .before .before .before .leaf-fields) .ensures) at ((c .before .before .before .before .before .before .before .before .before .before .before .before .before .put-node) .ensures)) (rw ((c .before .before .before .before .before .before .before .before .before .two-fields) .ensures) at ((c .before .before .before .before .before .before .before .before .put-node2) .ensures)) (rw ((c .before .before .before .before .two-fields2) .ensures) at ((c .before .before .before .put-node3) .ensures))
 
 pub make-explained-spec : {M : Type 1} → statement M
 make-explained-spec =

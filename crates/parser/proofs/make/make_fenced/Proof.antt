@@ -27,7 +27,7 @@ make-one-requires c κs = search needs
 returns : tie.Need-returns
 unfolding fenced withFence
 returns c =
-    λ lo n g h. rw (fence-none _ (sym ((c .before .before .fence-of) .ensures) ∙ (c .enum-told) .given .1))
+    λ lo n h. rw (fence-none _ (sym ((c .before .before .fence-of) .ensures) ∙ (c .enum-told) .given .1))
 
 same-length : tie.Need-same-length
 same-length c = search needs

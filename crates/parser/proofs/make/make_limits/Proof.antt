@@ -1,5 +1,6 @@
 -- `parser::make::make_limits` meets its contract.
 -- Assumes nothing.
+use Rattle.ast.proofs.HeldLaws.{turned-round}
 use borrow.Author.Needs.{needs}
 use native.Mathlib.Omega.{arith}
 use Rattle.parser.proofs.make.make_limits.Statement.{statement}
@@ -16,7 +17,7 @@ same-length c = search needs
 
 returns : tie.Need-returns
 returns c =
-    rw ((c .before .before .before .before .if1) .taken) (λ lo m n g ha hb. (c .before .before .make-under-over) .ensures lo n m g hb ha)
+    rw ((c .before .before .before .before .if1) .taken) (λ lo m n h. (c .before .before .make-under-over) .ensures lo n m (turned-round h))
 
 make-under-over-requires-2 : tie.Need-make-under-over-requires-2
 make-under-over-requires-2 c κs = search needs

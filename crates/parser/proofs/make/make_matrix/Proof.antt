@@ -52,7 +52,7 @@ done-requires-2 c κs = search needs
 
 returns : tie.Need-returns
 unfolding inEnvironment
-returns c = λ lo before last ns h e. rw ((c .enum-told) .given .1)
+returns c = λ lo hi before last ns roof h e. rw ((c .enum-told) .given .1)
 
 same-length : tie.Need-same-length
 same-length c = search needs

@@ -25,7 +25,7 @@ same-length c = search needs
 
 returns : tie.Need-returns
 returns c =
-    one-made ((c .before .before .before .before .before .before .before .args) .p) ((c .done) .ensures) ((c .before .before .before .before .before .before .before .args) .k) ((c .before .before .before .before .before .before .before .args) .a) (rw ((c .before .before .before .before .one-fields) .ensures) at ((c .before .before .before .put-node) .ensures)) ((c .before .before .before .before .before .before .before .pre) .1)
+    one-made ((c .before .before .before .before .before .before .before .args) .p) ((c .done) .ensures) ((c .before .before .before .before .before .before .before .args) .k) ((c .before .before .before .before .before .before .before .args) .a) (rw ((c .before .before .before .before .one-fields) .ensures) at ((c .before .before .before .put-node) .ensures))
 
 pub make-one-spec : {M : Type 1} → statement M
 make-one-spec =

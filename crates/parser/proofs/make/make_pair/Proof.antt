@@ -1,6 +1,7 @@
 -- `parser::make::make_pair` meets its contract.
 -- Assumes nothing.
 use Rattle.parser.specs.Parse.{ofPair}
+use Rattle.ast.proofs.HeldLaws.{turned-round}
 use borrow.Author.Needs.{needs}
 use native.Mathlib.Omega.{arith}
 use Rattle.parser.proofs.make.make_pair.Statement.{statement}
@@ -55,7 +56,7 @@ same-length-3 c = search needs
 returns-3 : tie.Need-returns-3
 unfolding ofPair
 returns-3 c =
-    rw ((c .before .before .before .before .enum-told2) .given .1) (λ lo m n g ha hb. (c .before .before .make-two2) .ensures lo n m g hb ha)
+    rw ((c .before .before .before .before .enum-told2) .given .1) (λ lo m n h. (c .before .before .make-two2) .ensures lo n m (turned-round h))
 
 same-length-4 : tie.Need-same-length-4
 same-length-4 c = search needs
@@ -63,7 +64,7 @@ same-length-4 c = search needs
 returns-4 : tie.Need-returns-4
 unfolding ofPair
 returns-4 c =
-    rw ((c .before .before .before .before .enum-told3) .given .1) (λ lo m n g ha hb. (c .before .before .make-two3) .ensures lo n m g hb ha)
+    rw ((c .before .before .before .before .enum-told3) .given .1) (λ lo m n h. (c .before .before .make-two3) .ensures lo n m (turned-round h))
 
 pub make-pair-spec : {M : Type 1} → statement M
 make-pair-spec =

@@ -34,7 +34,7 @@ returns c =
 returns-2 : tie.Need-returns-2
 unfolding bothScripts
 returns-2 c =
-    λ lo m n o g ha hb hc. rw (sym ((c .before .before .script-of) .ensures) ∙ (c .enum-told2) .given .1)
+    λ lo m n o h. rw (sym ((c .before .before .script-of) .ensures) ∙ (c .enum-told2) .given .1)
 
 pub make-scripts-spec : {M : Type 1} → statement M
 make-scripts-spec =

@@ -1,6 +1,7 @@
 -- `parser::make::make_sub_sup` meets its contract.
 -- Assumes nothing.
 use Rattle.parser.specs.Parse.{subSup}
+use Rattle.parser.proofs.MakeLaws.{turned-inside}
 use borrow.Author.Needs.{needs}
 use native.Mathlib.Omega.{arith}
 use Rattle.parser.proofs.make.make_sub_sup.Statement.{statement}
@@ -18,7 +19,7 @@ same-length c = search needs
 returns : tie.Need-returns
 unfolding subSup
 returns c =
-    rw ((c .before .before .before .before .if1) .taken) (λ lo m n o g ha hb hc. (c .before .before .make-three) .ensures lo m o n g ha hc hb)
+    rw ((c .before .before .before .before .if1) .taken) (λ lo m n o h. (c .before .before .make-three) .ensures lo m o n (turned-inside h))
 
 make-three-requires-2 : tie.Need-make-three-requires-2
 make-three-requires-2 c κs = search needs
