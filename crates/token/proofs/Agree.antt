@@ -3,13 +3,12 @@
 use mathlib.Core.Path.{_≡_, refl, sym, ap, _∙_, subst}
 use mathlib.Core.Bool.{Bool, true, false, not}
 use mathlib.Core.List.{List, [], _∷_}
-use Prim.Native.Nat.{ℕ, zero, suc, _+_, _-_, _≤_, _<_}
+use Prim.Native.Nat.{ℕ, zero, suc, _+_, _-_, _<_}
 use native.Mathlib.Omega.{arith}
 use lib.Dec.{ltb, eqb}
 use lib.ListN.{length, getD}
 use borrow.Author.Tests.{ltb-true, eqb-false, not-true}
 use Rattle.token.specs.declared.Token.{Token}
-use Rattle.token.specs.declared.Ordering.{Ordering}
 use Rattle.token.specs.declared.Ordering.the-variants.{Less}
 use Rattle.token.specs.Texts.{texts, text, widths, width}
 use Rattle.token.specs.Arms.{arms}

@@ -1,6 +1,6 @@
 -- A row and a name, compared word by word: each way that the comparison goes on or ends, by what the table has at the next word.
 -- Assumes nothing.
-use mathlib.Core.Path.{_≡_, refl, sym, ap, _∙_}
+use mathlib.Core.Path.{_≡_}
 use mathlib.Core.List.{List, [], _∷_}
 use Prim.Native.Nat.{ℕ, suc, _+_, _-_, _*_, _≤_, _<_}
 use native.Mathlib.Numerals.{add-one}
@@ -12,12 +12,16 @@ use Rattle.token.specs.declared.Ordering.the-variants.{Less, Equal, Grea
 use Rattle.token.specs.Key.{wordOf, wordsFrom, wordCount, words, key, rows, step, cmp, Row}
 use Rattle.text.proofs.Cases.{by-order}
 use Rattle.token.proofs.Packed.{from-more, from-none}
-use Rattle.token.proofs.RowLaws.{name-word, name-below, code-marked}
+use Rattle.token.proofs.RowLaws.{name-word, name-below, code-marked, row-inside}
 
 -- before the first word
 pub words-all : (l : List ℕ) (n : ℕ) → n ≡ wordCount (length l) → words l ≡ wordsFrom (n - 0) (4 * 0) l
 unfolding words
 words-all l n e = let all : n - 0 ≡ wordCount (length l) = omega arith in rw all
+
+-- the word k of the row is inside the table, if no row that begins there ends before it
+pub word-inside : {at k : ℕ} {A : ℕ → Type 0} → (i : ℕ) × Row at i → ((i : ℕ) → Row at i → (k ≤ length (key i)) × A i) → at + k < 1409
+word-inside r long = row-inside (r .1) _ (long (r .0) (r .1) .0)
 
 module _ {t : List ℕ} (e : t ≡ rows) {at i : ℕ} (row : Row at i) (k : ℕ) (h : k ≤ length (key i)) where
   -- a code ends the name of the row, and any other word goes on with it

@@ -1,14 +1,16 @@
 -- Escapes go byte by byte, and a graphic character stands as itself.
 -- Assumes nothing.
 use mathlib.Core.Path.{_≡_, refl, sym, _∙_}
+use mathlib.Core.Bool.{Bool}
 use mathlib.Core.List.{List, [], _∷_, _++_, append-assoc}
 use Prim.Native.Nat.{ℕ, _+_, _/_, _%_, _≤_, _<_}
 use native.Mathlib.Omega.{arith}
 use lib.ListN.{length, getD}
 use borrow.Author.Tests.{le-ltb, ne-eqb}
-use Rattle.text.specs.Put.{digits, unpacked}
+use Rattle.text.specs.Put.{Room, Puts, digits, unpacked}
 use Rattle.text.specs.Text.{bytes, part}
 use Rattle.text.proofs.PartLaws.{part-none, part-cons}
+use Rattle.text.proofs.PutLaws.{room-1, room-2, room-3, puts-3, room-as, puts-as}
 use Rattle.token.specs.declared.Undefined.{Undefined}
 use Rattle.token.specs.Debug.{control, escapes, escapeBy, escape, orNul, commandName, debug}
 
@@ -71,10 +73,34 @@ pub name-some : (s : List ℕ) (a e : ℕ) → a < e → e ≤ length s → comm
 unfolding commandName orNul
 name-some s a e less inside = rw (part-cons s a e less inside)
 
--- the Debug text of a command in three pieces
-pub command-pieces : (s : List ℕ) (a e : ℕ)
-    → escape (debug s (Undefined.Command a e)) ≡ escape (bytes "Command(\"") ++ (escape (escape (commandName s a e)) ++ escape (bytes "\")"))
+-- the Debug text of a command in three pieces, put one behind the other
+abbrev front : List ℕ
+front = escape (bytes "Command(\"")
+
+abbrev name : List ℕ → ℕ → ℕ → List ℕ
+name s a e = escape (escape (commandName s a e))
+
+abbrev back : List ℕ
+back = escape (bytes "\")")
+
+pieces : (s : List ℕ) (a e : ℕ) → escape (debug s (Undefined.Command a e)) ≡ front ++ name s a e ++ back
 unfolding debug
-command-pieces s a e =
-    escape-append (bytes "Command(\"") (escape (commandName s a e) ++ bytes "\")")
-    ∙ rw (escape-append (escape (commandName s a e)) (bytes "\")"))
+pieces s a e = simp (escape-append, append-assoc)
+
+module _ (s : List ℕ) (a e : ℕ) {write : Bool} {o : List ℕ} {at : ℕ} (room : Room write o at (length (escape (debug s (Undefined.Command a e))))) where
+  all : Room write o at (length (front ++ name s a e ++ back))
+  all = room-as (pieces s a e) room
+
+  pub front-room : Room write o at (length front)
+  front-room = room-1 front (name s a e) back all
+
+  module _ {o₁ : List ℕ} {r₁ : ℕ} (p : Puts write o o₁ at front r₁) where
+    pub name-room : Room write o₁ r₁ (length (name s a e))
+    name-room = room-2 front (name s a e) back all p
+
+    module _ {o₂ : List ℕ} {r₂ : ℕ} (q : Puts write o₁ o₂ r₁ (name s a e) r₂) where
+      pub back-room : Room write o₂ r₂ (length back)
+      back-room = room-3 front (name s a e) back all p q
+
+      pub command-put : {o₃ : List ℕ} {r₃ : ℕ} → Puts write o₂ o₃ r₂ back r₃ → Puts write o o₃ at (escape (debug s (Undefined.Command a e))) r₃
+      command-put r = puts-as (pieces s a e) (puts-3 front (name s a e) back all p q r)

@@ -8,8 +8,8 @@ use native.Mathlib.Nat.{le-of-suc-le-suc, not-suc-le-zero, eq-or-lt-of-le, pow-s
 use native.Mathlib.Numerals.{add-one}
 use native.Mathlib.Omega.{arith}
 use lib.Dec.{lit<}
-use lib.ListN.{length, getD, take, drop, length-take, length-drop, List·getD-eq-default}
-use lib.Seq.{getD-take, getD-drop, ext-getD}
+use lib.ListN.{length, getD, take, drop, List·getD-eq-default}
+use lib.Seq.{getD-drop, ext-getD}
 use Rattle.text.specs.Text.{part}
 use Rattle.text.proofs.PartLaws.{part-length, part-in, part-out}
 use Rattle.token.specs.Key.{packed, wordOf, wordsFrom, wordCount, words}

@@ -1,22 +1,17 @@
 -- `token::compare` meets its contract. The loop's invariant: the words before k are the same, so what follows decides.
 -- Assumes nothing.
 use mathlib.Core.Path.{_≡_, refl, sym, ap, _∙_}
-use Prim.Native.Nat.{ℕ, _+_, _-_, _*_, _/_, _≤_, _<_}
+use Prim.Native.Nat.{ℕ, _+_, _-_, _*_, _/_, _≤_}
 use denote.Ref.{now}
 use lib.ListN.{length, drop, getD}
 use Rattle.text.specs.Text.{part}
 use Rattle.text.proofs.PartLaws.{part-length}
-use Rattle.token.specs.Key.{wordOf, wordsFrom, wordCount, words, key, cmp, Row}
+use Rattle.token.specs.Key.{wordsFrom, wordCount, words, key, cmp, Row}
 use Rattle.token.proofs.Ordered.{step-less, step-greater, step-equal}
-use Rattle.token.proofs.RowLaws.{row-inside}
-use Rattle.token.proofs.CompareLaws.{words-all, row-goes, ends-before, ends-with, ends-behind, decides}
-use borrow.Author.Needs.{needs}
+use Rattle.token.proofs.CompareLaws.{words-all, word-inside, row-goes, ends-before, ends-with, ends-behind, decides}
 use native.Mathlib.Omega.{arith}
 use Rattle.token.proofs.compare.Statement.{statement}
 use Rattle.token.proofs.compare.Tie as tie
-use Rattle.token.proofs.compare.Reads as reads
-use Rattle.token.proofs.compare.Lts as lts
-use Rattle.token.proofs.word.Reads as word-reads
 
 abbrev Inv-loop : tie.InvT-loop
 Inv-loop at first s a e table n k₀ k =
@@ -38,19 +33,13 @@ loop-holds c =
     (omega arith, refl, λ i row. (omega arith, ap (cmp (key i)) (words-all (part (p .a) (p .e) (now (p .s))) _ (rw size))))
 
 add-x : tie.Need-add-x Inv-loop μ-loop
-add-x c =
-    let inside = row-inside ((c .before .before .before .pre) .0 .1) ((c .before .loop) .k) ((c .before .loop) .inv .2 ((c .before .before .before .pre) .0 .0) ((c .before .before .before .pre) .0 .1) .0) in
-    omega arith
+add-x c = omega (arith, word-inside (c .before .before .before .pre .0) (c .before .loop .inv .2))
 
 mul-x : tie.Need-mul-x Inv-loop μ-loop
-mul-x c =
-    let inside = row-inside ((c .before .before .before .pre) .0 .1) ((c .before .loop) .k) ((c .before .loop) .inv .2 ((c .before .before .before .pre) .0 .0) ((c .before .before .before .pre) .0 .1) .0) in
-    omega arith
+mul-x c = omega (arith, word-inside (c .before .before .before .pre .0) (c .before .loop .inv .2))
 
 element-copy-out-x : tie.Need-element-copy-out-x Inv-loop μ-loop
-element-copy-out-x c =
-    let inside = row-inside ((c .before .before .before .pre) .0 .1) ((c .before .loop) .k) ((c .before .loop) .inv .2 ((c .before .before .before .pre) .0 .0) ((c .before .before .before .pre) .0 .1) .0) in
-    omega arith
+element-copy-out-x c = omega (arith, word-inside (c .before .before .before .pre .0) (c .before .loop .inv .2))
 
 returns : tie.Need-returns Inv-loop μ-loop
 returns c =
@@ -87,19 +76,13 @@ loop-again c =
     )
 
 add-if4 : tie.Need-add-if4 Inv-loop μ-loop
-add-if4 c =
-    let inside = row-inside ((c .before .before .before .pre) .0 .1) ((c .before .loop) .k) ((c .before .loop) .inv .2 ((c .before .before .before .pre) .0 .0) ((c .before .before .before .pre) .0 .1) .0) in
-    omega arith
+add-if4 c = omega (arith, word-inside (c .before .before .before .pre .0) (c .before .loop .inv .2))
 
 mul-if4 : tie.Need-mul-if4 Inv-loop μ-loop
-mul-if4 c =
-    let inside = row-inside ((c .before .before .before .pre) .0 .1) ((c .before .loop) .k) ((c .before .loop) .inv .2 ((c .before .before .before .pre) .0 .0) ((c .before .before .before .pre) .0 .1) .0) in
-    omega arith
+mul-if4 c = omega (arith, word-inside (c .before .before .before .pre .0) (c .before .loop .inv .2))
 
 element-copy-out-if4 : tie.Need-element-copy-out-if4 Inv-loop μ-loop
-element-copy-out-if4 c =
-    let inside = row-inside ((c .before .before .before .pre) .0 .1) ((c .before .loop) .k) ((c .before .loop) .inv .2 ((c .before .before .before .pre) .0 .0) ((c .before .before .before .pre) .0 .1) .0) in
-    omega arith
+element-copy-out-if4 c = omega (arith, word-inside (c .before .before .before .pre .0) (c .before .loop .inv .2))
 
 returns-4 : tie.Need-returns-4 Inv-loop μ-loop
 returns-4 c =

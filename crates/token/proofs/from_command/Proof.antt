@@ -15,10 +15,6 @@ use borrow.Author.Needs.{needs}
 use native.Mathlib.Omega.{arith}
 use Rattle.token.proofs.from_command.Statement.{statement}
 use Rattle.token.proofs.from_command.Tie as tie
-use Rattle.token.proofs.from_command.Reads as reads
-use Rattle.token.proofs.from_command.Lts as lts
-use Rattle.token.proofs.search.Reads as search-reads
-use Rattle.token.proofs.table.token_of.Reads as token-of-reads
 
 returns : tie.Need-returns
 returns c =

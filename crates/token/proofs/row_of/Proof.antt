@@ -4,12 +4,9 @@ use Prim.Native.Nat.{ℕ, _+_, _≤_, _<_}
 use Rattle.token.specs.Table.{size}
 use Rattle.token.specs.Key.{start}
 use Rattle.token.proofs.RowLaws.{table-length, not-first, has-row}
-use borrow.Author.Needs.{needs}
 use native.Mathlib.Omega.{arith}
 use Rattle.token.proofs.row_of.Statement.{statement}
 use Rattle.token.proofs.row_of.Tie as tie
-use Rattle.token.proofs.row_of.Reads as reads
-use Rattle.token.proofs.row_of.Lts as lts
 
 abbrev Inv-loop : tie.InvT-loop
 Inv-loop p table at₀ at =

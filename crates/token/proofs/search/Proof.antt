@@ -1,11 +1,10 @@
 -- `token::search` meets its contract. The loop's invariant: each name whose row begins before `lo` is less than the one looked for, and
 -- each whose row begins from `hi` on is greater, by the table's order. Where they meet, no name of the table is the one looked for.
 -- Assumes nothing.
-use mathlib.Core.Path.{_≡_, sym, ap, _∙_}
-use Prim.Native.Nat.{ℕ, _+_, _-_, _/_, _≤_, _<_}
-use denote.Ref.{now}
+use mathlib.Core.Path.{_≡_, sym, _∙_}
+use Prim.Native.Nat.{ℕ, _-_, _≤_, _<_}
 use Rattle.text.specs.Text.{part}
-use Rattle.token.specs.declared.Ordering.the-variants.{Less, Equal, Greater}
+use Rattle.token.specs.declared.Ordering.the-variants.{Less, Greater}
 use Rattle.token.specs.Table.{size}
 use Rattle.token.specs.Key.{words, key, start, cmp}
 use Rattle.token.proofs.Ordered.{cmp-equal, all-less, all-greater, none-between}
@@ -15,11 +14,6 @@ use borrow.Author.Needs.{needs}
 use native.Mathlib.Omega.{arith}
 use Rattle.token.proofs.search.Statement.{statement}
 use Rattle.token.proofs.search.Tie as tie
-use Rattle.token.proofs.search.Reads as reads
-use Rattle.token.proofs.search.Lts as lts
-use Rattle.token.proofs.compare.Reads as compare-reads
-use Rattle.token.proofs.pack.Reads as pack-reads
-use Rattle.token.proofs.row_of.Reads as row-of-reads
 
 abbrev Inv-loop : tie.InvT-loop
 Inv-loop s a e table first lo₀ hi₀ lo hi =

@@ -10,9 +10,6 @@ use borrow.Author.Needs.{needs}
 use native.Mathlib.Omega.{arith}
 use Rattle.token.proofs.word.Statement.{statement}
 use Rattle.token.proofs.word.Tie as tie
-use Rattle.token.proofs.word.Reads as reads
-use Rattle.token.proofs.word.Lts as lts
-use Rattle.token.proofs.pack.Reads as pack-reads
 
 returns : tie.Need-returns
 returns c =

@@ -1,7 +1,7 @@
 -- `token::Token::acts_on_a_digit` meets its contract: by the place of the variant among the enum's (`by-tag`), and an arm of several variants by the law `at-key`.
 -- Assumes nothing.
 use mathlib.Core.Path.{_≡_, refl, sym, _∙_}
-use mathlib.Core.Bool.{Bool, true, false}
+use mathlib.Core.Bool.{true, false}
 use mathlib.Core.List.{List, [], _∷_}
 use Prim.Native.Nat.{ℕ}
 use denote.Enum.Declared.{tagOf}

@@ -8,9 +8,6 @@ use borrow.Author.Needs.{needs}
 use native.Mathlib.Omega.{arith}
 use Rattle.token.proofs.debug.escaped_twice.Statement.{statement}
 use Rattle.token.proofs.debug.escaped_twice.Tie as tie
-use Rattle.token.proofs.debug.escaped_twice.Reads as reads
-use Rattle.token.proofs.debug.escaped_twice.Lts as lts
-use Rattle.token.proofs.debug.wide.Reads as wide-reads
 
 returns-36 : tie.Need-returns-36
 returns-36 c =

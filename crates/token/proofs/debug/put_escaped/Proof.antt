@@ -10,10 +10,6 @@ use borrow.Author.Needs.{needs}
 use native.Mathlib.Omega.{arith}
 use Rattle.token.proofs.debug.put_escaped.Statement.{statement}
 use Rattle.token.proofs.debug.put_escaped.Tie as tie
-use Rattle.token.proofs.debug.put_escaped.Reads as reads
-use Rattle.token.proofs.debug.put_escaped.Lts as lts
-use Rattle.text.proofs.put.put_packed.Reads as put-packed-reads
-use Rattle.token.proofs.debug.escaped_twice.Reads as escaped-twice-reads
 
 abbrev Inv-loop : tie.InvT-loop
 Inv-loop s a e out₀ at write place₀ i₀ out place i =

@@ -1,13 +1,8 @@
 -- `token::texts::put_text` meets its contract.
 -- Assumes nothing.
 use borrow.Author.Needs.{needs}
-use native.Mathlib.Omega.{arith}
 use Rattle.token.proofs.texts.put_text.Statement.{statement}
 use Rattle.token.proofs.texts.put_text.Tie as tie
-use Rattle.token.proofs.texts.put_text.Reads as reads
-use Rattle.token.proofs.texts.put_text.Lts as lts
-use Rattle.text.proofs.put.put_packed.Reads as put-packed-reads
-use Rattle.token.proofs.texts.packed_text.Reads as packed-text-reads
 
 packed-text-requires : tie.Need-packed-text-requires
 packed-text-requires c κs = search needs

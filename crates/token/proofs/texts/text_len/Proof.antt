@@ -4,12 +4,8 @@ use mathlib.Core.Path.{sym, ap, _∙_}
 use lib.ListN.{length}
 use Rattle.text.proofs.PutLaws.{unpacked-length}
 use borrow.Author.Needs.{needs}
-use native.Mathlib.Omega.{arith}
 use Rattle.token.proofs.texts.text_len.Statement.{statement}
 use Rattle.token.proofs.texts.text_len.Tie as tie
-use Rattle.token.proofs.texts.text_len.Reads as reads
-use Rattle.token.proofs.texts.text_len.Lts as lts
-use Rattle.token.proofs.texts.packed_text.Reads as packed-text-reads
 
 packed-text-requires : tie.Need-packed-text-requires
 packed-text-requires c κs = search needs
