@@ -8,7 +8,7 @@ use native.Mathlib.Omega.{arith}
 use native.Mathlib.Nat.{le-refl}
 use lib.ListN.{length}
 use Rattle.text.specs.Utf8.{wellFormed}
-use Rattle.text.specs.Nul.{hasNul}
+use Rattle.text.specs.Any.{hasNul}
 use Rattle.text.specs.Put.{Room, Puts}
 use Rattle.attribute.specs.declared.DisplayStyle.{DisplayStyle}
 use Rattle.error.specs.declared.Refusal.{Refusal}

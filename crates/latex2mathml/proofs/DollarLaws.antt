@@ -1,20 +1,20 @@
 -- Dollars side by side, and whether marks are odd in number.
 -- Assumes nothing.
 use mathlib.Core.Path.{_≡_, refl, sym, _∙_, ap, fun-ext}
-use mathlib.Core.Bool.{Bool, true, false, not, xor, _&&_, _||_, and-true, and-false, or-true, or-false, false≢true}
+use mathlib.Core.Bool.{Bool, true, false, not, xor, _&&_, and-false, false≢true}
 use mathlib.Core.List.{List, [], _∷_}
 use Prim.Native.Nat.{ℕ, zero, suc, _+_, _-_, _≤_, _<_, _%_}
 use native.Mathlib.Omega.{arith}
 use native.Mathlib.Numerals.{add-one}
 use lib.Dec.{eqb, ltb}
 use lib.ListN.{length, drop, getD, drop-of-length-le}
-use lib.Seq.{drop-cons, drop-drop}
+use lib.Seq.{drop-drop}
 use borrow.Author.Tests.{eqb-true, eqb-false, eq-eqb, ne-eqb, lt-ltb, ltb-false, not-true}
 use Rattle.text.specs.Plain.{plain}
-use Rattle.text.proofs.Cases.{never, by-test, by-order, both}
+use Rattle.text.proofs.Cases.{never, by-test, by-order}
 use Rattle.text.proofs.PlainLaws.{plain-cons, plain-drop}
 use Rattle.latex2mathml.specs.Replace.{dollar, twoDollars, threeDollars, places, odd}
-use Rattle.latex2mathml.specs.Dollars.{mark, width, nextPlace, unusual, allUsual}
+use Rattle.latex2mathml.specs.Dollars.{mark, width, nextPlace}
 use Rattle.latex2mathml.specs.Search.{startsWith, pair}
 use Rattle.latex2mathml.proofs.PlaceLaws.{next-is, next-none, places-here, places-more, places-end, places-none, places-first, skipped}
 
@@ -84,19 +84,6 @@ module _ (s : List ℕ) (i r : ℕ) (h : i ≤ length s) (e : r ≡ nextPlace tw
       → places threeDollars i (drop i s) ≡ places threeDollars (r + 1) (drop (r + 1) s)
   three-more l b =
       three-next ∙ places-more threeDollars s r (omega arith) (three-at s r true false (first-two (omega arith)) (dollar-not s (r + 2) b))
-
--- Whether a dollar stands anywhere, with f for the bytes before i.
-module _ (s : List ℕ) (i : ℕ) (f : Bool) where
-  pub some-here : i < length s → getD s i 0 ≡ 36 → (f || ltb 0 (length (places dollar i (drop i s)))) ≡ true
-  some-here l e =
-      rw (places-here dollar s i l (dollar-is s i e), lt-ltb 0 (suc (length (places dollar (i + 1) (drop (i + 1) s)))) (omega arith)) (or-true f)
-
-  pub some-more : i < length s → (getD s i 0 ≡ 36 → ⊥)
-      → (f || ltb 0 (length (places dollar i (drop i s)))) ≡ (f || ltb 0 (length (places dollar (i + 1) (drop (i + 1) s))))
-  some-more l e = rw (places-more dollar s i l (dollar-not s i e))
-
-  pub some-end : length s ≤ i → (f || ltb 0 (length (places dollar i (drop i s)))) ≡ f
-  some-end h = rw (places-end dollar s i h) (or-false f)
 
 -- one more place makes odd even and even odd
 odd-more : (r : ℕ) (l : List ℕ) → odd (r ∷ l) ≡ not (odd l)
@@ -176,12 +163,6 @@ mark-none : (double : Bool) (s : List ℕ) (j : ℕ) → dollar (drop j s) ≡ f
 mark-none true s j e = two-at s j false _ e refl
 mark-none false s j e = e
 
-pub no-mark : (double : Bool) (s : List ℕ) → ltb 0 (length (places dollar 0 s)) ≡ false → nextPlace (mark double) 0 s ≡ length s
-no-mark double s e =
-    next-none (mark double) s 0 (omega arith)
-    (λ j h. mark-none double s j (by-order j (length s) (λ l. none-passes dollar s (none-listed (places dollar 0 s) e) j l) (λ l. dollar-end s j l)))
-
--- nor has prose
 dollarless : (l : List ℕ) → plain l ≡ true → dollar l ≡ false
 unfolding dollar
 dollarless [] h = refl
@@ -190,34 +171,6 @@ dollarless (b ∷ l) h = not-true (eqb b 36) (plain-cons b l h .0)
 pub plain-none : (double : Bool) (s : List ℕ) → plain s ≡ true → nextPlace (mark double) 0 s ≡ length s
 plain-none double s h =
     next-none (mark double) s 0 (omega arith) (λ j l. mark-none double s j (dollarless (drop j s) (plain-drop j s h)))
-
--- Whether the bytes from i on have no dollar, with p for those before.
-module _ (s : List ℕ) (i : ℕ) (p : Bool) where
-  pub plain-here : i < length s → getD s i 0 ≡ 36 → (p && plain (drop i s)) ≡ false
-  unfolding plain
-  plain-here l e = rw (drop-cons s i 0 l, plain, e) (and-false p)
-
-  pub plain-more : i < length s → (getD s i 0 ≡ 36 → ⊥) → (p && plain (drop i s)) ≡ (p && plain (drop (i + 1) s))
-  unfolding plain
-  plain-more l e = rw (add-one, drop-cons s i 0 l, plain, ne-eqb (getD s i 0) 36 e)
-
-  pub plain-end : length s ≤ i → (p && plain (drop i s)) ≡ p
-  unfolding plain
-  plain-end h = rw (drop-of-length-le s h) (and-true p)
-
--- Whether the bytes from i on are usual, with p for those before.
-module _ (s : List ℕ) (i : ℕ) (p : Bool) where
-  pub usual-here : i < length s → unusual (getD s i 0) ≡ true → (p && allUsual (drop i s)) ≡ false
-  unfolding allUsual
-  usual-here l e = rw (drop-cons s i 0 l, allUsual, e) (and-false p)
-
-  pub usual-more : i < length s → unusual (getD s i 0) ≡ false → (p && allUsual (drop i s)) ≡ (p && allUsual (drop (i + 1) s))
-  unfolding allUsual
-  usual-more l e = rw (add-one, drop-cons s i 0 l, allUsual, e)
-
-  pub usual-end : length s ≤ i → (p && allUsual (drop i s)) ≡ p
-  unfolding allUsual
-  usual-end h = rw (drop-of-length-le s h) (and-true p)
 
 -- where no three dollars stand in a row, the marks behind a mark are those behind its last dollar
 pub record Behind (double : Bool) (s : List ℕ) (a : ℕ) : Type 0 where

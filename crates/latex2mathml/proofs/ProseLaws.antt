@@ -8,11 +8,11 @@ use native.Mathlib.Omega.{arith}
 use lib.Dec.{eqb, ltb}
 use lib.ListN.{length}
 use borrow.Author.Tests.{lt-ltb, le-ltb, not-true}
-use Rattle.text.specs.Follow.{isAscii}
-use Rattle.text.specs.Nul.{hasNul}
+use Rattle.text.specs.Any.{any, hasNul, isAscii}
 use Rattle.text.specs.Plain.{plain}
 use Rattle.text.specs.Put.{Puts}
-use Rattle.text.proofs.Cases.{never, by-test}
+use Rattle.text.proofs.Cases.{neither}
+use Rattle.text.proofs.AnyLaws.{none-cons}
 use Rattle.text.proofs.AsciiLaws.{ascii-well}
 use Rattle.text.proofs.PutLaws.{puts-all}
 use Rattle.attribute.specs.declared.DisplayStyle.{DisplayStyle}
@@ -20,7 +20,7 @@ use Rattle.error.specs.declared.Refusal.{Refusal}
 use Rattle.latex2mathml.specs.declared.Answer.{Answer}
 use Rattle.latex2mathml.specs.Outcome.{accepted, refused, _>>=_, refuse, bytesOf}
 use Rattle.latex2mathml.specs.Replace.{firstPass, secondPass, replacement, replaceOutcome, replace}
-use Rattle.latex2mathml.specs.Dollars.{mark, nextPlace, unusual, allUsual, isProse}
+use Rattle.latex2mathml.specs.Dollars.{mark, nextPlace, unusual, isProse}
 use Rattle.latex2mathml.specs.Laid.{inRoom}
 use Rattle.latex2mathml.specs.Written.{over, Gives, Replaces}
 use Rattle.latex2mathml.proofs.TranslateLaws.{gives-nothing, gives-markup}
@@ -28,21 +28,19 @@ use Rattle.latex2mathml.proofs.DollarLaws.{plain-none}
 use Rattle.latex2mathml.proofs.ReplaceLaws.{Checked, plain-checked, plain-large, plain-even, plain-passed, first-is, first-long, second-is, replacement-is, replace-refused}
 
 -- usual bytes are ASCII, and none is NUL
-usual-ascii : (l : List ℕ) → allUsual l ≡ true → (isAscii l ≡ true) × (hasNul l ≡ false)
-unfolding allUsual unusual isAscii hasNul
+usual-ascii : (l : List ℕ) → any unusual l ≡ false → (isAscii l ≡ true) × (hasNul l ≡ false)
+unfolding any unusual
 usual-ascii [] e = (refl, refl)
 usual-ascii (b ∷ l) e =
-    let h = and-eq-true-iff (not (unusual b)) (allUsual l) .0 e in
-    let none = not-true (unusual b) (h .0) in
+    let h = none-cons unusual b l e in
+    let k = neither (eqb b 0) (ltb 127 b) (h .0) in
     let rest = usual-ascii l (h .1) in
-    by-test (eqb b 0)
-    (λ t. let z = rw (unusual, t) at none in never cc)
-    (λ t. let low = rw (unusual, t) at none in (rw (isAscii, low) (rest .0), rw (hasNul, t) (rest .1)))
+    (rw (k .1) (rest .0), rw (k .0) (rest .1))
 
 module _ (d : List ℕ) (store work : ℕ) (prose : isProse d ≡ true) where
-  pub sides : (allUsual d ≡ true) × (plain d ≡ true)
+  sides : (not (any unusual d) ≡ true) × (plain d ≡ true)
   unfolding isProse
-  sides = and-eq-true-iff (allUsual d) (plain d) .0 prose
+  sides = and-eq-true-iff (not (any unusual d)) (plain d) .0 prose
 
   unmarked : (double : Bool) → length d ≡ nextPlace (mark double) 0 d
   unmarked double = sym (plain-none double d (sides .1))
@@ -54,7 +52,7 @@ module _ (d : List ℕ) (store work : ℕ) (prose : isProse d ≡ true) where
   module _ (short : length d ≤ 32768) where
     checked : Checked d
     checked =
-        let h = usual-ascii d (sides .0) in
+        let h = usual-ascii d (not-true (any unusual d) (sides .0)) in
         plain-checked d short (sym (ascii-well d (h .0))) (h .1) (unmarked true)
 
     first-large : work < length d → firstPass d store work ≡ refused Refusal.WorkTooSmall

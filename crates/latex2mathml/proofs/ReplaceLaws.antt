@@ -11,7 +11,7 @@ use lib.ListN.{length, take, drop, length-append}
 use lib.Seq.{take-at, length-take-le}
 use borrow.Author.Tests.{ltb-false, lt-ltb, le-ltb, not-false}
 use Rattle.text.specs.Utf8.{wellFormed}
-use Rattle.text.specs.Nul.{hasNul}
+use Rattle.text.specs.Any.{hasNul}
 use Rattle.text.specs.Put.{Room, Puts}
 use Rattle.text.proofs.Cases.{never}
 use Rattle.text.proofs.PutLaws.{puts-all}

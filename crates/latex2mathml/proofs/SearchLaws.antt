@@ -1,8 +1,8 @@
 -- A byte found by words: the test of a word goes byte by byte, since no sum reaches the next byte; and two bytes alike.
 -- Assumes nothing.
 use mathlib.Core.Path.{_≡_, refl, sym, _∙_, ap, ap₂}
-use mathlib.Core.Bool.{Bool, true, false, not, _&&_, _||_, and-false, false≢true}
-use mathlib.Core.List.{List, [], _∷_}
+use mathlib.Core.Bool.{Bool, true, false, not, _&&_, _||_, and-false}
+use mathlib.Core.List.{List, _∷_}
 use Prim.Native.Nat.{ℕ, zero, suc, _+_, _-_, _*_, _/_, _%_, _^_, _≤_, _<_}
 use native.Mathlib.Nat.{mod-lt, lt-of-le-of-lt, lt-of-lt-of-le, add-zero}
 use native.Mathlib.Numerals.{add-one}
@@ -14,9 +14,11 @@ use lib.Seq.{drop-cons, drop-drop}
 use lib.Pow.{pow-pos, pow-add, pow-mono, split}
 use lib.Bits.{bitAnd, bitOr, bitXor, and-block, or-block, xor-block, and-le-l, and-le-r, and-zero-r, or-lt, xor-lt, xor-self, xor-add-and}
 use borrow.Author.Tests.{eqb-true, eqb-false, eq-eqb, ne-eqb}
+use Rattle.text.specs.Any.{any, contains}
 use Rattle.text.specs.Put.{digits}
 use Rattle.latex2mathml.specs.Dollars.{nextPlace}
-use Rattle.latex2mathml.specs.Search.{startsWith, pair, among}
+use Rattle.latex2mathml.specs.Search.{startsWith, pair}
+use Rattle.text.proofs.AnyLaws.{none-cons}
 use Rattle.text.proofs.Cases.{by-test}
 use Rattle.text.proofs.Tabled.{each}
 use Rattle.latex2mathml.proofs.PlaceLaws.{next-here, next-more, next-none, next-within, next-is}
@@ -61,8 +63,8 @@ low-alike m n b =
     (λ t. rw t (ne-eqb (m * 256 + b) (n * 256 + b) (λ e. eqb-false m n t (omega arith))))
 
 -- all high bits are found exactly where no byte is 0
-marked : (n w : ℕ) → eqb (marks n w) (all n 128) ≡ not (among 0 (digits n w))
-unfolding all digits among wanted
+marked : (n w : ℕ) → eqb (marks n w) (all n 128) ≡ not (contains 0 (digits n w))
+unfolding all digits any wanted
 marked zero w = eq-eqb (marks 0 w) 0 (and-zero-r (bitOr (bitAnd w 0 + 0) w))
 marked (suc n) w =
     let a : ℕ = w / 256 in
@@ -88,16 +90,16 @@ unfolding digits
 low-byte n a b h = ap₂ (λ x y. x ∷ digits n y) (digits-mod a h) (digits-div a h)
 
 -- a byte of a word is c exactly where the bits that differ from c are none
-turned : (n w c : ℕ) → c < 256 → among 0 (digits n (bitXor w (all n c))) ≡ among c (digits n w)
-unfolding all digits among
+turned : (n w c : ℕ) → c < 256 → contains 0 (digits n (bitXor w (all n c))) ≡ contains c (digits n w)
+unfolding all digits any
 turned zero w c h = refl
 turned (suc n) w c h =
     let a : ℕ = w / 256 in
     let b : ℕ = w % 256 in
     let l : b < 256 = mod-lt w (pow-pos 8) in
-    ap (λ x. among 0 (digits (suc n) (bitXor x (all n c * 256 + c)))) (sym (split w 8))
-    ∙ ap (λ x. among 0 (digits (suc n) x)) (xor-block 8 a (all n c) b c l h)
-    ∙ ap (among 0) (low-byte n (bitXor a (all n c)) (bitXor b c) (xor-lt 8 b c l h))
+    ap (λ x. contains 0 (digits (suc n) (bitXor x (all n c * 256 + c)))) (sym (split w 8))
+    ∙ ap (λ x. contains 0 (digits (suc n) x)) (xor-block 8 a (all n c) b c l h)
+    ∙ ap (contains 0) (low-byte n (bitXor a (all n c)) (bitXor b c) (xor-lt 8 b c l h))
     ∙ ap₂ _||_ (same-bits b c) (turned n a c h)
 
 not-twice : (b : Bool) → not (not b) ≡ b
@@ -105,24 +107,19 @@ not-twice true = refl
 not-twice false = refl
 
 -- some high bit is missing exactly where one of the n bytes is c
-pub exact : (n w c : ℕ) → c < 256 → not (eqb (marks n (bitXor w (all n c))) (all n 128)) ≡ among c (digits n w)
-exact n w c h = ap not (marked n (bitXor w (all n c))) ∙ not-twice (among 0 (digits n (bitXor w (all n c)))) ∙ turned n w c h
+pub exact : (n w c : ℕ) → c < 256 → not (eqb (marks n (bitXor w (all n c))) (all n 128)) ≡ contains c (digits n w)
+exact n w c h = ap not (marked n (bitXor w (all n c))) ∙ not-twice (contains 0 (digits n (bitXor w (all n c)))) ∙ turned n w c h
 
 -- n bytes without b are passed
-pub passed : (b n : ℕ) (s : List ℕ) (i : ℕ) → i + n ≤ length s → among b (take n (drop i s)) ≡ false
+pub passed : (b n : ℕ) (s : List ℕ) (i : ℕ) → i + n ≤ length s → contains b (take n (drop i s)) ≡ false
     → nextPlace (startsWith b) i (drop i s) ≡ nextPlace (startsWith b) (i + n) (drop (i + n) s)
-unfolding among startsWith nextPlace
+unfolding startsWith nextPlace
 passed b zero s i h e = rw add-zero
 passed b (suc n) s i h e =
     let inside : i < length s = omega arith in
-    let here = rw (drop-cons s i 0 inside) at e in
-    let none = or-false (eqb (getD s i 0) b) (among b (take n (drop (suc i) s))) here in
+    let none = none-cons (λ c. eqb c b) (getD s i 0) (take n (drop (suc i) s)) (rw (drop-cons s i 0 inside) at e) in
     let k : suc i + n ≡ i + suc n = omega arith in
     rw (drop-cons s i 0 inside, nextPlace, startsWith, none .0) (passed b n s (suc i) (omega arith) (none .1) ∙ ap (λ j. nextPlace (startsWith b) j (drop j s)) k)
-  where
-    or-false : (a b : Bool) → (a || b) ≡ false → (a ≡ false) × (b ≡ false)
-    or-false true b e = absurd (false≢true (sym e))
-    or-false false b e = (refl, e)
 
 -- the bytes of a text from j on as a word, and the byte before them
 module _ (s : List ℕ) (k j : ℕ) (w : ℕ) where

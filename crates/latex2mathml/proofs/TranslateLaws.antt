@@ -10,7 +10,7 @@ use lib.Dec.{ltb}
 use lib.ListN.{length, drop, length-append}
 use borrow.Author.Tests.{ltb-false, lt-ltb, le-ltb}
 use Rattle.text.specs.Utf8.{wellFormed}
-use Rattle.text.specs.Nul.{hasNul}
+use Rattle.text.specs.Any.{hasNul}
 use Rattle.text.specs.Text.{bytes}
 use Rattle.text.specs.Put.{Room, Puts}
 use Rattle.text.specs.Examples.{text-opens}

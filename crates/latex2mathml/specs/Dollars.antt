@@ -5,6 +5,7 @@ use mathlib.Core.List.{List, [], _∷_}
 use Prim.Native.Nat.{ℕ, suc}
 use Prim.Native.Char.{code}
 use lib.Dec.{eqb, ltb}
+use Rattle.text.specs.Any.{any}
 use Rattle.text.specs.Plain.{plain}
 use Rattle.latex2mathml.specs.Replace.{dollar, twoDollars}
 
@@ -26,10 +27,6 @@ nextPlace test at (b ∷ l) = elim (test (b ∷ l)) [ true ↦ at | false ↦ ne
 unfoldable pub unusual : ℕ → Bool
 unusual b = eqb b (code "\0") || ltb 0x7f b
 
-unfoldable pub allUsual : List ℕ → Bool
-allUsual [] = true
-allUsual (b ∷ l) = not (unusual b) && allUsual l
-
 -- no byte is NUL or above 127, and none is a dollar
 unfoldable pub isProse : List ℕ → Bool
-isProse l = allUsual l && plain l
+isProse l = not (any unusual l) && plain l

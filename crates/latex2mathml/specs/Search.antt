@@ -1,6 +1,6 @@
--- A byte, or two alike, at the head of some bytes, and a byte among them.
+-- A byte, or two alike, at the head of some bytes.
 -- Assumes nothing.
-use mathlib.Core.Bool.{Bool, false, _&&_, _||_}
+use mathlib.Core.Bool.{Bool, false, _&&_}
 use mathlib.Core.List.{List, [], _∷_}
 use Prim.Native.Nat.{ℕ}
 use lib.Dec.{eqb}
@@ -14,8 +14,3 @@ startsWith b (c ∷ l) = eqb c b
 -- the first two bytes are b
 unfoldable pub pair : ℕ → List ℕ → Bool
 pair b l = startsWith b l && startsWith b (drop 1 l)
-
--- at least one of the bytes is b
-unfoldable pub among : ℕ → List ℕ → Bool
-among b [] = false
-among b (c ∷ l) = eqb c b || among b l

@@ -6,7 +6,7 @@ use Prim.Native.Nat.{ℕ, _*_, _/_}
 use lib.Dec.{ltb}
 use lib.ListN.{length}
 use Rattle.text.specs.Utf8.{wellFormed}
-use Rattle.text.specs.Nul.{hasNul}
+use Rattle.text.specs.Any.{hasNul}
 use Rattle.text.specs.Text.{bytes}
 use Rattle.attribute.specs.declared.DisplayStyle.{DisplayStyle}
 use Rattle.attribute.specs.Names.{displayStyle}

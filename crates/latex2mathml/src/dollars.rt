@@ -1,6 +1,7 @@
 // The dollars of a document.
 use crate::search::next_byte;
 use crate::search::next_pair;
+use text::contains;
 ghost use mathlib.Core.Path.{_≡_};
 ghost use Prim.Native.Nat.{_≤_};
 ghost use lib.Dec.{ltb};
@@ -14,21 +15,6 @@ fn next_dollar(s: &[u8], from: usize) -> usize
     ensures { λ r. ⌜ (r ≡ nextPlace dollar from (drop from (now (s .entry)))) × (from ≤ r) × (r ≤ length (now (s .entry))) ⌝ }
 {
     next_byte(s, from, b'$')
-}
-
-// Whether a dollar stands anywhere. It goes on to the end in any case, so that many bytes are tested at once.
-fn has_dollar(s: &[u8]) -> bool
-    ensures { λ r. ⌜ r ≡ ltb 0 (length (places dollar 0 (now (s .entry)))) ⌝ }
-{
-    let mut found = false;
-    let mut i = 0;
-    while i < s.len() {
-        if s[i] == b'$' {
-            found = true;
-        }
-        i += 1;
-    }
-    found
 }
 
 // Whether a byte is NUL, or not ASCII.
@@ -46,22 +32,22 @@ fn is_unusual(b: u8) -> bool
 pub fn is_prose(s: &[u8]) -> bool
     ensures { λ r. ⌜ r ≡ isProse (now (s .entry)) ⌝ }
 {
-    let mut usual = true;
-    let mut plain = true;
+    let mut unusual = false;
+    let mut dollar = false;
     let mut i = 0;
     while i < s.len() {
         if is_unusual(s[i]) {
-            usual = false;
+            unusual = true;
         }
         if s[i] == b'$' {
-            plain = false;
+            dollar = true;
         }
         i += 1;
     }
-    if usual {
-        return plain;
+    if unusual {
+        return false;
     }
-    false
+    !dollar
 }
 
 // The place of the first two dollars side by side from a place on, or the length.
@@ -87,7 +73,7 @@ pub(crate) fn next_mark(s: &[u8], from: usize, double: bool) -> usize
 pub(crate) fn first_mark(s: &[u8], double: bool) -> usize
     ensures { λ r. ⌜ r ≡ nextPlace (mark double) 0 (now (s .entry)) ⌝ }
 {
-    if has_dollar(s) {
+    if contains(s, b'$') {
         return next_mark(s, 0, double);
     }
     s.len()

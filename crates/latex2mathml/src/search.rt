@@ -2,9 +2,10 @@
 ghost use mathlib.Core.Path.{_≡_};
 ghost use Prim.Native.Nat.{_+_, _≤_, _<_};
 ghost use lib.ListN.{length, take, drop};
+ghost use Rattle.text.specs.Any.{contains};
 ghost use Rattle.text.specs.Put.{digits};
 ghost use Rattle.latex2mathml.specs.Dollars.{nextPlace};
-ghost use Rattle.latex2mathml.specs.Search.{startsWith, pair, among};
+ghost use Rattle.latex2mathml.specs.Search.{startsWith, pair};
 
 // A byte as a word.
 fn wide(x: u8) -> u64
@@ -30,7 +31,7 @@ fn word_at(s: &[u8], i: usize) -> u64
 // Whether one of the eight bytes of a word is b. Such a byte differs from b in no bit; seven ones added to the seven low bits of what
 // differs set the high bit of every other byte, and no such sum reaches the next byte.
 fn has_byte(w: u64, b: u8) -> bool
-    ensures { λ r. ⌜ r ≡ among b (digits 8 w) ⌝ }
+    ensures { λ r. ⌜ r ≡ contains b (digits 8 w) ⌝ }
 {
     let other = w ^ wide(b) * 0x0101_0101_0101_0101;
     let sum = (other & 0x7f7f_7f7f_7f7f_7f7f) + 0x7f7f_7f7f_7f7f_7f7f;

@@ -1,20 +1,22 @@
 -- A page of prose is the prose, and no paragraph of it is left.
 -- Assumes nothing.
-use mathlib.Core.Path.{_≡_, refl, sym, _∙_}
+use mathlib.Core.Path.{_≡_, sym, _∙_}
 use mathlib.Core.Bool.{true, not, and-eq-true-iff}
-use mathlib.Core.List.{List, [], _∷_, _++_}
+use mathlib.Core.List.{List, _++_}
 use Prim.Native.Nat.{ℕ, _+_, _*_, _≤_, _<_}
 use native.Mathlib.Omega.{arith}
 use lib.Dec.{ltb}
 use lib.ListN.{length, drop, length-append}
-use borrow.Author.Tests.{lt-ltb, le-ltb}
+use borrow.Author.Tests.{lt-ltb, le-ltb, not-true}
+use Rattle.text.specs.Any.{any}
 use Rattle.text.specs.Plain.{plain}
 use Rattle.text.specs.Put.{Puts}
+use Rattle.text.proofs.AnyLaws.{none-sides}
 use Rattle.text.proofs.PlainLaws.{plain-append}
 use Rattle.text.proofs.PutLaws.{puts-all}
 use Rattle.error.specs.declared.Refusal.{Refusal}
 use Rattle.latex2mathml.specs.Outcome.{accepted, _>>=_, refuse, documentLimit, numberOf}
-use Rattle.latex2mathml.specs.Dollars.{nextPlace, unusual, allUsual, isProse}
+use Rattle.latex2mathml.specs.Dollars.{nextPlace, unusual, isProse}
 use Rattle.latex2mathml.specs.Written.{over}
 use Rattle.latex2mathml.proofs.ProseLaws.{prose-typed}
 use Rattle.page.specs.declared.PageAnswer.{PageAnswer}
@@ -29,21 +31,13 @@ use Rattle.page.proofs.ParagraphLaws.{shown-replaced, left-replaced}
 use Rattle.page.proofs.PageLaws.{pages-refused}
 
 -- both sides of prose are prose
-usual-both : (l m : List ℕ) → allUsual (l ++ m) ≡ true → (allUsual l ≡ true) × (allUsual m ≡ true)
-unfolding allUsual
-usual-both [] m e = (refl, e)
-usual-both (b ∷ l) m e =
-    let h = and-eq-true-iff (not (unusual b)) (allUsual (l ++ m)) .0 e in
-    let k = usual-both l m (h .1) in
-    (rw (allUsual, h .0) (k .0), k .1)
-
 prose-both : (l m : List ℕ) → isProse (l ++ m) ≡ true → (isProse l ≡ true) × (isProse m ≡ true)
 unfolding isProse
 prose-both l m h =
-    let sides = and-eq-true-iff (allUsual (l ++ m)) (plain (l ++ m)) .0 h in
-    let low = usual-both l m (sides .0) in
+    let sides = and-eq-true-iff (not (any unusual (l ++ m))) (plain (l ++ m)) .0 h in
+    let low = none-sides unusual l m (not-true (any unusual (l ++ m)) (sides .0)) in
     let bare = and-eq-true-iff (plain l) (plain m) .0 (sym (plain-append l m) ∙ sides .1) in
-    (and-eq-true-iff (allUsual l) (plain l) .1 (low .0, bare .0), and-eq-true-iff (allUsual m) (plain m) .1 (low .1, bare .1))
+    (rw (isProse, low .0, bare .0), rw (isProse, low .1, bare .1))
 
 module _ (store work : ℕ) where
   -- every paragraph comes out as typed

@@ -8,10 +8,10 @@ use native.Mathlib.Omega.{arith}
 use lib.Dec.{eqb}
 use borrow.Author.Tests.{eqb-true}
 use Rattle.text.specs.Utf8.{wellFormed}
-use Rattle.text.specs.Nul.{hasNul}
+use Rattle.text.specs.Any.{hasNul}
 use Rattle.text.specs.Plain.{plain}
 use Rattle.text.proofs.Cases.{by-test}
-use Rattle.text.proofs.NulLaws.{no-nul-sides}
+use Rattle.text.proofs.AnyLaws.{none-sides}
 use Rattle.text.proofs.SplitLaws.{both-sides}
 use Rattle.latex2mathml.specs.Replace.{dollar}
 use Rattle.latex2mathml.specs.Dollars.{width}
@@ -69,8 +69,8 @@ well-sides (suc (suc n)) xs ys some h =
 run-sides : (n : ℕ) (xs ys : List ℕ) → 1 ≤ n → Readable (xs ++ (dollars n ++ ys)) → Readable xs × Readable ys
 run-sides n xs ys some (well, no-nul) =
     let w = well-sides n xs ys some well in
-    let k = no-nul-sides xs (dollars n ++ ys) no-nul in
-    ((w .0, k .0), (w .1, no-nul-sides (dollars n) ys (k .1) .1))
+    let k = none-sides _ xs (dollars n ++ ys) no-nul in
+    ((w .0, k .0), (w .1, none-sides _ (dollars n) ys (k .1) .1))
 
 -- spans of the same bytes and the same parts
 pub record Spans (rs : Runs) : Type 0 where

@@ -1,7 +1,7 @@
 -- Cases: by a test, by the order of two numbers, and those that cannot be.
 -- Assumes nothing.
 use mathlib.Core.Path.{_≡_, refl}
-use mathlib.Core.Bool.{Bool, true, false, false≢true}
+use mathlib.Core.Bool.{Bool, true, false, _||_, true≢false, false≢true}
 use Prim.Native.Nat.{ℕ, _≤_, _<_}
 use native.Mathlib.Omega.{arith}
 use lib.Dec.{ltb}
@@ -26,3 +26,8 @@ by-three m n f g h = by-order m n f (λ l. by-order n m g (λ k. h (omega arith)
 pub both : (a b : Bool) → _≡_ {A = Bool} (elim a [ true ↦ b | false ↦ false ]) true → (a ≡ true) × (b ≡ true)
 both true b e = (refl, e)
 both false b e = absurd (false≢true e)
+
+-- .. neither holds
+pub neither : (a b : Bool) → (a || b) ≡ false → (a ≡ false) × (b ≡ false)
+neither true b e = absurd (true≢false e)
+neither false b e = (refl, e)

@@ -1,9 +1,9 @@
+pub mod AnyLaws
 pub mod AsciiLaws
 pub mod Cases
 pub mod EncodeLaws
 pub mod FollowLaws
 pub mod Keys
-pub mod NulLaws
 pub mod PartLaws
 pub mod PlainLaws
 pub mod PutLaws

@@ -1,26 +1,33 @@
 -- Bytes without a dollar: of two lists, of a part, of a character, and the character at the head of them.
 -- Assumes nothing.
 use mathlib.Core.Path.{_≡_, refl}
-use mathlib.Core.Bool.{Bool, true, false, _&&_, and-eq-true-iff}
+use mathlib.Core.Bool.{Bool, true, false, not, _&&_, and-eq-true-iff}
 use mathlib.Core.List.{List, [], _∷_, _++_}
 use Prim.Native.Nat.{ℕ, zero, suc, _+_, _-_, _≤_}
 use Prim.Native.Char.{code}
 use Prim.Native.String.{String}
 use Prim.Native.String as S
 use native.Mathlib.Omega.{arith}
-use lib.Dec.{leb}
+use lib.Dec.{eqb, leb}
 use lib.ListN.{getD, take, drop}
 use borrow.Author.Tests.{leb-true, ne-eqb}
 use Rattle.text.specs.Utf8.{encode, codePoint}
 use Rattle.text.specs.Text.{bytes, part}
 use Rattle.text.specs.Plain.{noDollar, plain}
-use Rattle.text.proofs.Cases.{by-order}
+use Rattle.text.specs.Any.{any, contains}
+use Rattle.text.proofs.Cases.{by-test, by-order}
 use Rattle.text.proofs.EncodeLaws.{encode-1, encode-2, encode-3, encode-4}
 use Rattle.text.proofs.Utf8Laws.{every, ascii-point, high-point}
 
 pub plain-cons : (b : ℕ) (l : List ℕ) → plain (b ∷ l) ≡ true → (noDollar b ≡ true) × (plain l ≡ true)
 unfolding plain
 plain-cons b l h = and-eq-true-iff (noDollar b) (plain l) .0 h
+
+-- bytes without a dollar, as a test of every byte finds them
+pub plain-is : (l : List ℕ) → plain l ≡ not (contains 36 l)
+unfolding plain any
+plain-is [] = refl
+plain-is (b ∷ l) = by-test (eqb b 36) (λ t. rw t) (λ t. rw t (plain-is l))
 
 -- what is plain in two lists is plain in both
 pub plain-append : (l m : List ℕ) → plain (l ++ m) ≡ (plain l && plain m)

@@ -7,11 +7,11 @@ use Prim.Native.Nat.{ℕ}
 use Rattle.text.specs.Utf8.{table, follow, goesOn, wellFormed, begins, value, lead, codePoint, encode}
 use Rattle.text.specs.Text.{bytes}
 use Rattle.text.specs.Put.{digits, unpacked}
-use Rattle.text.specs.Nul.{hasNul}
+use Rattle.text.specs.Any.{any}
 
 -- whoever unfolds this unfolds all definitions of this crate, as an example has to
 unfoldable pub text-opens : Unit {0}
-unfolding table follow goesOn wellFormed begins value lead codePoint encode bytes digits unpacked hasNul
+unfolding table follow goesOn wellFormed begins value lead codePoint encode bytes digits unpacked any
 text-opens = tt
 
 -- the first and the last code point of each row, and a text of every width

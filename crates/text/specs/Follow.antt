@@ -4,7 +4,6 @@ use mathlib.Core.Bool.{Bool, true, false}
 use mathlib.Core.List.{List, [], _∷_}
 use mathlib.Core.Option.{Option, none, some}
 use Prim.Native.Nat.{ℕ, zero, suc}
-use lib.Dec.{ltb}
 use lib.ListN.{replicate}
 use Rattle.text.specs.Utf8.{Range, _to_, goesOn, begins, value, replacement}
 use Rattle.text.specs.declared.CodePoint.{CodePoint}
@@ -29,8 +28,3 @@ after (some rs) l = goesOn rs l
 -- the code point of the width whose first bytes gave v and whose last bytes, one in each range, are to begin l
 unfoldable pub read : ℕ → ℕ → List Range → List ℕ → CodePoint
 read width v rs l = elim (begins rs l) [ true ↦ record { code = value v rs l; width = width } | false ↦ replacement ]
-
--- no byte is above 127
-unfoldable pub isAscii : List ℕ → Bool
-isAscii [] = true
-isAscii (b ∷ l) = elim (ltb 0x7f b) [ true ↦ false | false ↦ isAscii l ]

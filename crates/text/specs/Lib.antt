@@ -2,6 +2,6 @@ pub mod Utf8
 pub mod Follow
 pub mod Text
 pub mod Plain
-pub mod Nul
+pub mod Any
 pub mod Put
 pub mod Examples

@@ -6,8 +6,8 @@ ghost use mathlib.Core.List.{List, _∷_};
 ghost use Prim.Native.Nat.{ℕ, suc, _≤_, _<_};
 ghost use lib.ListN.{length, drop};
 ghost use Rattle.text.specs.Utf8.{table, follow, goesOn, wellFormed, lead, replacement, codePoint};
-ghost use Rattle.text.specs.Follow.{pending, ranges, after, read, isAscii};
-ghost use Rattle.text.specs.Nul.{hasNul};
+ghost use Rattle.text.specs.Follow.{pending, ranges, after, read};
+ghost use Rattle.text.specs.Any.{contains, hasNul, isAscii};
 
 // A code point and the number of bytes that it takes.
 pub struct CodePoint {
@@ -59,15 +59,15 @@ fn step(left: usize, low: u8, high: u8, b: u8) -> Follow
 fn is_ascii(s: &[u8]) -> bool
     ensures { λ r. ⌜ r ≡ isAscii (now (s .entry)) ⌝ }
 {
-    let mut ascii = true;
+    let mut found = false;
     let mut i = 0;
     while i < s.len() {
         if 0x7f < s[i] {
-            ascii = false;
+            found = true;
         }
         i += 1;
     }
-    ascii
+    !found
 }
 
 // Whether the bytes are well-formed UTF-8, in one pass; ASCII is.
@@ -101,19 +101,26 @@ pub fn well_formed(s: &[u8]) -> bool
     left == 0
 }
 
-// Whether a byte is NUL. It goes on to the end in any case, so that many bytes are tested at once.
-pub fn has_nul(s: &[u8]) -> bool
-    ensures { λ r. ⌜ r ≡ hasNul (now (s .entry)) ⌝ }
+// Whether a byte is b. It goes on to the end as `is_ascii` does.
+pub fn contains(s: &[u8], b: u8) -> bool
+    ensures { λ r. ⌜ r ≡ contains b (now (s .entry)) ⌝ }
 {
     let mut found = false;
     let mut i = 0;
     while i < s.len() {
-        if s[i] == 0 {
+        if s[i] == b {
             found = true;
         }
         i += 1;
     }
     found
+}
+
+// Whether a byte is NUL.
+pub fn has_nul(s: &[u8]) -> bool
+    ensures { λ r. ⌜ r ≡ hasNul (now (s .entry)) ⌝ }
+{
+    contains(s, 0)
 }
 
 // A byte as a part of a code point.

@@ -5,8 +5,9 @@ use Prim.Native.Nat.{_-_, _≤_}
 use lib.ListN.{length, drop}
 use borrow.Author.Needs.{needs}
 use native.Mathlib.Omega.{arith}
+use Rattle.text.specs.Any.{contains}
 use Rattle.latex2mathml.specs.Dollars.{nextPlace}
-use Rattle.latex2mathml.specs.Search.{startsWith, among}
+use Rattle.latex2mathml.specs.Search.{startsWith}
 use Rattle.latex2mathml.proofs.SearchLaws.{passed}
 use Rattle.latex2mathml.proofs.search.past_words.Statement.{statement}
 use Rattle.latex2mathml.proofs.search.past_words.Tie as tie
@@ -43,7 +44,7 @@ loop-again : tie.Need-loop-again Inv-loop μ-loop
 loop-again c =
     let l = (c .before .before .before .before .loop) in
     let a = (c .before .before .before .before .before .before .args) in
-    let none = ap (among (a .b)) (sym (c .before .before .word-at .ensures)) ∙ sym (c .before .has-byte .ensures) ∙ c .if1 .left in
+    let none = ap (contains (a .b)) (sym (c .before .before .word-at .ensures)) ∙ sym (c .before .has-byte .ensures) ∙ c .if1 .left in
     (l .inv .0 ∙ passed (a .b) 8 (a .s .now) (l .i) (omega arith) none, omega arith, omega arith)
 
 returns-2 : tie.Need-returns-2 Inv-loop μ-loop
