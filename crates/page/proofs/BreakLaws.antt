@@ -1,23 +1,22 @@
--- The line ends at a place of a text, the next from there on, and the end of a break.
+-- The line ends at a place of a text, where the next break begins, and where it ends.
 -- Assumes nothing.
 use mathlib.Core.Path.{_≡_, refl, sym, _∙_, ap}
-use mathlib.Core.Bool.{Bool, true, false, not, _&&_, and-false, false≢true}
+use mathlib.Core.Bool.{Bool, true, false, not, _&&_, and-false, and-eq-true-iff, false≢true}
 use mathlib.Core.List.{List, [], _∷_}
 use Prim.Native.Nat.{ℕ, zero, suc, _+_, _-_, _≤_, _<_}
 use native.Mathlib.Numerals.{add-one}
 use native.Mathlib.Nat.{add-zero}
 use native.Mathlib.Omega.{arith}
 use lib.Dec.{eqb}
-use lib.ListN.{length, drop, getD, drop-of-length-le}
+use lib.ListN.{length, drop, getD, length-drop, drop-of-length-le}
 use lib.Seq.{drop-cons, drop-drop}
-use borrow.Author.Tests.{ne-eqb}
-use Rattle.text.proofs.Cases.{by-order}
+use borrow.Author.Tests.{eqb-true, ne-eqb}
+use Rattle.text.proofs.Cases.{by-test, by-order}
 use Rattle.latex2mathml.specs.Dollars.{nextPlace}
 use Rattle.latex2mathml.specs.Search.{startsWith}
-use Rattle.latex2mathml.proofs.PlaceLaws.{next-here, next-more, next-end, next-is}
-use Rattle.latex2mathml.proofs.SearchLaws.{starts-is, starts-not}
+use Rattle.latex2mathml.proofs.PlaceLaws.{next-here, next-more, next-end, next-within, next-is}
 use Rattle.page.specs.Breaks.{lineFeed, lineEnd, inLineEnd, twoLineEnds, noLineEnd}
-use Rattle.page.proofs.LineEndLaws.{by-head, none-in}
+use Rattle.page.proofs.LineEndLaws.{by-head, feed-one, end-fits, none-in, none-two}
 
 -- a byte is a line feed where it stands
 line-feed-at : (s : List ℕ) (i : ℕ) → lineFeed (drop i s) ≡ eqb (getD s i 0) 10
@@ -58,62 +57,118 @@ module _ (s : List ℕ) (i : ℕ) where
   unfolding twoLineEnds inLineEnd
   two-at w e = rw (e, ← drop-drop (lineEnd (drop i s)) i s)
 
--- A line feed is a line end, and no other begins at two bytes that are no line feeds.
-feed-in : (l : List ℕ) → startsWith 10 l ≡ true → inLineEnd l ≡ true
-unfolding startsWith inLineEnd lineEnd
-feed-in [] e = absurd (false≢true e)
-feed-in (b ∷ l) e = rw (inLineEnd, lineEnd, e)
+-- a line feed that a blank line follows
+abbrev pub blankBehind : List ℕ → Bool
+blankBehind l = lineFeed l && twoLineEnds l
+
+starts-feed : (l : List ℕ) → startsWith 10 l ≡ lineFeed l
+unfolding startsWith lineFeed
+starts-feed [] = refl
+starts-feed (b ∷ l) = refl
+
+-- The next such line feed from i on, where r is the next line feed at all.
+module _ (s : List ℕ) (i r : ℕ) (h : i ≤ length s) (e : r ≡ nextPlace (startsWith 10) i (drop i s)) where
+  to-feed : nextPlace blankBehind i (drop i s) ≡ nextPlace blankBehind r (drop r s)
+  to-feed = next-within (startsWith 10) s blankBehind (λ j failed. rw (← starts-feed (drop j s), failed)) i r h e
+
+  module _ (l : r < length s) where
+    by-behind : blankBehind (drop r s) ≡ not (eqb (lineEnd (drop (r + 1) s)) 0)
+    by-behind =
+        let feed = sym (starts-feed (drop r s)) ∙ rw (← e) at ((next-is (startsWith 10) s i h) .passes) l in
+        rw feed (two-at s r 1 (sym (feed-one (drop r s) feed)))
+
+    pub blank-here : (lineEnd (drop (r + 1) s) ≡ 0 → ⊥) → nextPlace blankBehind i (drop i s) ≡ r
+    blank-here some = to-feed ∙ next-here blankBehind s r l (by-behind ∙ rw (ne-eqb _ 0 some))
+
+    pub blank-more : lineEnd (drop (r + 1) s) ≡ 0 → nextPlace blankBehind i (drop i s) ≡ nextPlace blankBehind (r + 1) (drop (r + 1) s)
+    blank-more none = to-feed ∙ next-more blankBehind s r l (by-behind ∙ rw none)
+
+  pub blank-none : r ≤ length s → length s - r < 2 → nextPlace blankBehind i (drop i s) ≡ length s
+  blank-none inside short =
+      by-order r (length s)
+      (λ l. blank-more l (end-outside s (r + 1) (omega arith)) ∙ next-end blankBehind s (r + 1) (omega arith) ∙ omega arith)
+      (λ l. to-feed ∙ next-end blankBehind s r l ∙ omega arith)
+
+-- Two line ends begin at such a line feed, or at a CR directly before it.
+two-none : (l : List ℕ) → blankBehind l ≡ false → (lineEnd l ≡ 2 → blankBehind (drop 1 l) ≡ false) → twoLineEnds l ≡ false
+unfolding lineFeed lineEnd inLineEnd twoLineEnds
+two-none [] first second = refl
+two-none (b ∷ l) first second =
+    by-head (λ b l. blankBehind (b ∷ l) ≡ false → (lineEnd (b ∷ l) ≡ 2 → blankBehind l ≡ false) → twoLineEnds (b ∷ l) ≡ false)
+    (λ l f g. f)
+    (λ l f g. g refl)
+    (λ b l none f g. none-two (b ∷ l) (none-in (b ∷ l) none))
+    b
+    l
+    first
+    second
 
 module _ (s : List ℕ) where
-  not-feed : (i : ℕ) → i < length s → i < nextPlace (startsWith 10) i (drop i s) → getD s i 0 ≡ 10 → ⊥
-  not-feed i inside l e =
-      let here = next-here (startsWith 10) s i inside (starts-is 10 s i inside e) in
-      omega arith
+  not-here : (i : ℕ) → i < length s → i < nextPlace blankBehind i (drop i s) → blankBehind (drop i s) ≡ false
+  not-here i inside l =
+      by-test (blankBehind (drop i s))
+      (λ t. absurd (omega (arith, next-here blankBehind s i inside t)))
+      (λ t. t)
 
-  feed-far : (k i : ℕ) → i + k < length s → nextPlace (startsWith 10) i (drop i s) ≡ i + k + 1
-      → nextPlace inLineEnd i (drop i s) ≡ nextPlace inLineEnd (i + k) (drop (i + k) s)
-  feed-far zero i h e = rw (add-zero i)
-  feed-far (suc k) i h e =
+  blank-far : (k i : ℕ) → i + k < length s → nextPlace blankBehind i (drop i s) ≡ i + k + 1
+      → (nextPlace twoLineEnds i (drop i s) ≡ nextPlace twoLineEnds (i + k) (drop (i + k) s)) × (blankBehind (drop (i + k) s) ≡ false)
+  blank-far zero i h e = rw (add-zero i) (refl, not-here i (omega arith) (omega arith))
+  blank-far (suc k) i h e =
       let inside : i < length s = omega arith in
-      let first = not-feed i inside (omega arith) in
-      let next = next-more (startsWith 10) s i inside (starts-not 10 s i inside first) in
-      let second = not-feed (i + 1) (omega arith) (omega arith) in
+      let first = not-here i inside (omega arith) in
+      let next = next-more blankBehind s i inside first in
+      let second = not-here (i + 1) (omega arith) (omega arith) in
       let same : i + 1 + k ≡ i + suc k = omega arith in
-      next-more inLineEnd s i inside (none-in (drop i s) (end-alone s i inside first second))
-      ∙ rw same at (feed-far k (i + 1) (omega arith) (omega arith))
+      let far = rw same at (blank-far k (i + 1) (omega arith) (omega arith)) in
+      (next-more twoLineEnds s i inside (two-none (drop i s) first (λ w. rw (drop-drop 1 i s) second)) ∙ far .0, far .1)
 
--- The next line end from i on, where r is the next line feed: there, or at the byte before.
-module _ (s : List ℕ) (i r : ℕ) (h : i ≤ length s) (e : r ≡ nextPlace (startsWith 10) i (drop i s)) where
-  there : nextPlace inLineEnd r (drop r s) ≡ r
-  there =
-      by-order r (length s)
-      (λ l. next-here inLineEnd s r l (feed-in (drop r s) (rw (← e) at ((next-is (startsWith 10) s i h) .passes) l)))
-      (λ l. next-end inLineEnd s r l)
+-- The next two line ends from i on, where r is the next such line feed.
+module _ (s : List ℕ) (i r : ℕ) (h : i ≤ length s) (e : r ≡ nextPlace blankBehind i (drop i s)) where
+  at-two : r < length s → (lineFeed (drop r s) ≡ true) × (twoLineEnds (drop r s) ≡ true)
+  at-two l = and-eq-true-iff (lineFeed (drop r s)) (twoLineEnds (drop r s)) .0 (rw (← e) at ((next-is blankBehind s i h) .passes) l)
 
-  pub at-feed : r ≡ i → nextPlace inLineEnd i (drop i s) ≡ r
-  at-feed same = ap (λ j. nextPlace inLineEnd j (drop j s)) (sym same) ∙ there
+  pub one-there : r < length s → 1 ≡ lineEnd (drop r s)
+  one-there l = sym (feed-one (drop r s) (at-two l .0))
+
+  there : nextPlace twoLineEnds r (drop r s) ≡ r
+  there = by-order r (length s) (λ l. next-here twoLineEnds s r l (at-two l .1)) (λ l. next-end twoLineEnds s r l)
+
+  pub at-feed : r ≡ i → nextPlace twoLineEnds i (drop i s) ≡ r
+  at-feed same = ap (λ j. nextPlace twoLineEnds j (drop j s)) (sym same) ∙ there
 
   module _ (l : i < r) where
-    inside : r ≤ length s
-    inside = rw (← e) at ((next-is (startsWith 10) s i h) .inside)
-
-    from-before : nextPlace inLineEnd i (drop i s) ≡ nextPlace inLineEnd (r - 1) (drop (r - 1) s)
-    from-before =
-        let n = inside in
+    before : (nextPlace twoLineEnds i (drop i s) ≡ nextPlace twoLineEnds (r - 1) (drop (r - 1) s)) × (blankBehind (drop (r - 1) s) ≡ false) × (r ≤ length s)
+    before =
+        let inside : r ≤ length s = rw (← e) at ((next-is blankBehind s i h) .inside) in
         let k : i + (r - 1 - i) ≡ r - 1 = omega arith in
-        rw k at (feed-far s (r - 1 - i) i (omega arith) (omega arith))
+        let far = rw k at (blank-far s (r - 1 - i) i (omega arith) (omega arith)) in
+        (far .0, far .1, inside)
 
-    pub before-feed : (lineEnd (drop (r - 1) s) ≡ 0 → ⊥) → nextPlace inLineEnd i (drop i s) ≡ r - 1
-    unfolding inLineEnd
-    before-feed some =
-        let n = inside in
-        from-before ∙ next-here inLineEnd s (r - 1) (omega arith) (rw (inLineEnd, ne-eqb _ 0 some))
+    not-last : lineEnd (drop (r - 1) s) ≡ 2 → r < length s
+    not-last two = omega (arith, end-fits (drop (r - 1) s), length-drop (r - 1) s)
 
-    pub not-before : lineEnd (drop (r - 1) s) ≡ 0 → nextPlace inLineEnd i (drop i s) ≡ r
-    not-before none =
-        let n = inside in
+    pub before-feed : lineEnd (drop (r - 1) s) ≡ 2 → nextPlace twoLineEnds i (drop i s) ≡ r - 1
+    before-feed two =
+        let more = not-last two in
+        let k : r - 1 + 2 ≡ r + 1 = omega arith in
+        before .0
+        ∙ next-here twoLineEnds s (r - 1) (omega arith) (two-at s (r - 1) 2 (sym two) ∙ rw k (sym (two-at s r 1 (one-there more)) ∙ at-two more .1))
+
+    pub not-before : (lineEnd (drop (r - 1) s) ≡ 2 → ⊥) → nextPlace twoLineEnds i (drop i s) ≡ r
+    not-before other =
+        let b = before in
         let k : r - 1 + 1 ≡ r = omega arith in
-        from-before ∙ rw k at (next-more inLineEnd s (r - 1) (omega arith) (none-in (drop (r - 1) s) none)) ∙ there
+        let none = two-none (drop (r - 1) s) (b .1) (λ two. absurd (other two)) in
+        b .0 ∙ rw k at (next-more twoLineEnds s (r - 1) (omega arith) none) ∙ there
+
+  -- so what holds of r, and of the place before it where CR LF stands there, holds of the place of the two
+  pub begins : (P : ℕ → Type 0) → P r → (0 < r → r < length s → lineEnd (drop (r - 1) s) ≡ 2 → P (r - 1)) → P (nextPlace twoLineEnds i (drop i s))
+  begins P same return =
+      by-order i r
+      (λ l. by-test (eqb (lineEnd (drop (r - 1) s)) 2)
+      (λ t. let two = eqb-true (lineEnd (drop (r - 1) s)) 2 t in rw (before-feed l two) (return (omega arith) (not-last l two) two))
+      (λ t. rw (not-before l (λ two. false≢true (sym t ∙ rw two))) same))
+      (λ l. rw (at-feed (omega (arith, (next-is blankBehind s i h) .from))) same)
 
 -- The end of a break.
 end-next : (at : ℕ) (l : List ℕ) → nextPlace noLineEnd at l ≡ nextPlace noLineEnd (at + lineEnd l) (drop (lineEnd l) l)

@@ -3,8 +3,10 @@
 use mathlib.Core.Path.{_≡_, refl, sym, _∙_}
 use mathlib.Core.Bool.{true, false, _&&_, false≢true, and-false, and-eq-true-iff}
 use mathlib.Core.List.{List, [], _∷_}
-use Prim.Native.Nat.{ℕ}
+use Prim.Native.Nat.{ℕ, _≤_}
+use native.Mathlib.Omega.{arith}
 use lib.Dec.{eqb}
+use lib.ListN.{length}
 use borrow.Author.Tests.{eqb-true}
 use Rattle.text.proofs.Cases.{by-test}
 use Rattle.page.specs.Breaks.{lineFeed, lineEnd, inLineEnd, twoLineEnds}
@@ -25,6 +27,19 @@ module _ (P : ℕ → List ℕ → Type 0) (feed : (l : List ℕ) → P 10 l) (r
       by-test (eqb b 10)
       (λ t. rw (eqb-true b 10 t) (feed l))
       (λ t. by-test (eqb b 13 && lineFeed l) (λ u. by-return b l u) (λ u. text b l (rw (lineEnd, t, u))))
+
+-- an LF at the head is a line end of one byte
+pub feed-one : (l : List ℕ) → lineFeed l ≡ true → lineEnd l ≡ 1
+unfolding lineFeed lineEnd
+feed-one [] e = absurd (false≢true e)
+feed-one (b ∷ l) e = rw (lineEnd, e)
+
+-- a line end has no more bytes than there are
+pub end-fits : (l : List ℕ) → lineEnd l ≤ length l
+unfolding lineEnd lineFeed
+end-fits [] = omega arith
+end-fits (b ∷ l) =
+    by-head (λ b l. lineEnd (b ∷ l) ≤ length (b ∷ l)) (λ l. omega arith) (λ l. omega arith) (λ b l none. rw none (omega arith)) b l
 
 -- where none stands at the head the tests say so
 pub none-in : (l : List ℕ) → lineEnd l ≡ 0 → inLineEnd l ≡ false

@@ -1,10 +1,11 @@
 // The breaks of a document: where the next one begins, where it ends, and how many paragraphs there are between them.
 use latex2mathml::search::next_byte;
 ghost use mathlib.Core.Path.{_≡_};
+ghost use mathlib.Core.Bool.{_&&_};
 ghost use Prim.Native.Nat.{_+_, _≤_};
 ghost use lib.ListN.{length, drop};
 ghost use Rattle.latex2mathml.specs.Dollars.{nextPlace};
-ghost use Rattle.page.specs.Breaks.{lineEnd, inLineEnd, twoLineEnds, noLineEnd};
+ghost use Rattle.page.specs.Breaks.{lineFeed, lineEnd, twoLineEnds, noLineEnd};
 ghost use Rattle.page.specs.Pieces.{pieces};
 ghost use Rattle.page.specs.Page.{paragraphs};
 
@@ -31,46 +32,38 @@ fn line_end(s: &[u8], i: usize) -> usize
     }
 }
 
-// Whether two line ends stand at a place.
-fn two_line_ends(s: &[u8], i: usize) -> bool
-    requires { ⌜ i ≤ length (now s) ⌝ }
-    ensures { λ r. ⌜ r ≡ twoLineEnds (drop i (now (s .entry))) ⌝ }
-{
-    let first = line_end(s, i);
-    if first == 0 {
-        return false;
-    }
-    line_end(s, i + first) != 0
-}
-
-// The place of the first line end from a place on, or the length: it begins at the first line feed, or at a CR directly before it.
-fn next_line_end(s: &[u8], from: usize) -> usize
+// The place of the first line feed from a place on that a blank line follows, a line end directly behind it, or the length. What stands
+// before a line feed matters at breaks alone, so it is not looked at here.
+fn next_blank(s: &[u8], from: usize) -> usize
     requires { ⌜ from ≤ length (now s) ⌝ }
-    ensures { λ r. ⌜ (r ≡ nextPlace inLineEnd from (drop from (now (s .entry)))) × (from ≤ r) × (r ≤ length (now (s .entry))) ⌝ }
+    ensures { λ r. ⌜ (r ≡ nextPlace (λ l. lineFeed l && twoLineEnds l) from (drop from (now (s .entry)))) × (from ≤ r) × (r ≤ length (now (s .entry))) ⌝ }
 {
-    let feed = next_byte(s, from, b'\n');
-    if feed == from {
-        return feed;
+    let mut i = from;
+    loop {
+        let feed = next_byte(s, i, b'\n');
+        if s.len() - feed < 2 {
+            return s.len();
+        }
+        i = feed + 1;
+        if line_end(s, i) != 0 {
+            return feed;
+        }
     }
-    if line_end(s, feed - 1) == 0 {
-        return feed;
-    }
-    feed - 1
 }
 
-// The place of the first two line ends from a place on, or the length.
+// The place of the first two line ends from a place on, or the length: the first begins at its line feed, or at a CR directly before it.
 pub fn next_break(s: &[u8], from: usize) -> usize
     requires { ⌜ from ≤ length (now s) ⌝ }
     ensures { λ r. ⌜ (r ≡ nextPlace twoLineEnds from (drop from (now (s .entry)))) × (from ≤ r) × (r ≤ length (now (s .entry))) ⌝ }
 {
-    let mut i = next_line_end(s, from);
-    while i < s.len() {
-        if two_line_ends(s, i) {
-            return i;
-        }
-        i = next_line_end(s, i + 1);
+    let feed = next_blank(s, from);
+    if feed == from {
+        return feed;
     }
-    i
+    if line_end(s, feed - 1) != 2 {
+        return feed;
+    }
+    feed - 1
 }
 
 // The first place from a place on where no line end stands, or the length.
@@ -88,18 +81,18 @@ pub fn break_end(s: &[u8], from: usize) -> usize
     }
 }
 
-// The number of paragraphs.
+// The number of paragraphs. Where a break ends is found from its first line feed on, so where it begins is not looked for.
 pub fn count_paragraphs(document: &[u8]) -> usize
     ensures { λ r. ⌜ r ≡ paragraphs (pieces (now (document .entry))) ⌝ }
 {
     let mut k: usize = 0;
     let mut from: usize = 0;
     loop {
-        let e = next_break(document, from);
+        let feed = next_blank(document, from);
         k += 1;
-        if e == document.len() {
+        if feed == document.len() {
             return k;
         }
-        from = break_end(document, e);
+        from = break_end(document, feed + 1);
     }
 }

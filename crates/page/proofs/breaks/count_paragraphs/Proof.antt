@@ -16,8 +16,8 @@ abbrev μ-loop : tie.MeasureT-loop
 loop-holds : tie.Need-loop-holds Inv-loop μ-loop
 loop-holds c = record { inside = omega arith; few = omega arith; counted = omega arith }
 
-next-break-requires : tie.Need-next-break-requires Inv-loop μ-loop
-next-break-requires c κs = (c .loop) .inv .inside
+next-blank-requires : tie.Need-next-blank-requires Inv-loop μ-loop
+next-blank-requires c κs = (c .loop) .inv .inside
 
 add-k : tie.Need-add-k Inv-loop μ-loop
 add-k c =
@@ -26,23 +26,30 @@ add-k c =
 
 returns : tie.Need-returns Inv-loop μ-loop
 returns c =
-    counting-last ((c .before .before .loop) .inv) ((c .before .next-break) .result) ((c .before .next-break) .ensures .0) ((c .if1) .taken)
+    counting-last ((c .before .before .loop) .inv) ((c .before .next-blank) .result) ((c .before .next-blank) .ensures .0) ((c .if1) .taken)
+
+add-break-end : tie.Need-add-break-end Inv-loop μ-loop
+add-break-end c = omega arith
 
 break-end-requires : tie.Need-break-end-requires Inv-loop μ-loop
-break-end-requires c κs = (c .before .next-break) .ensures .2
+break-end-requires c κs =
+    let feed = (c .before .next-blank) .ensures in
+    omega arith
 
 loop-less : tie.Need-loop-less Inv-loop μ-loop
 loop-less c =
-    let e = (c .before .before .next-break) .ensures in
-    let d = (c .break-end) .ensures in
-    let more = counting-more ((c .before .before .before .loop) .inv) ((c .before .before .next-break) .result) (e .0) ((c .break-end) .result) (e .1) (omega arith) (d .0) (d .2) in
+    let feed = (c .before .before .next-blank) in
+    let d = (c .break-end) in
+    let inside = feed .ensures .2 in
+    let more = counting-more ((c .before .before .before .loop) .inv) (feed .result) (feed .ensures .0) (d .result) (omega arith) (d .ensures .0) (d .ensures .2) in
     omega arith
 
 loop-again : tie.Need-loop-again Inv-loop μ-loop
 loop-again c =
-    let e = (c .before .before .next-break) .ensures in
-    let d = (c .break-end) .ensures in
-    counting-more ((c .before .before .before .loop) .inv) ((c .before .before .next-break) .result) (e .0) ((c .break-end) .result) (e .1) (omega arith) (d .0) (d .2) .0
+    let feed = (c .before .before .next-blank) in
+    let d = (c .break-end) in
+    let inside = feed .ensures .2 in
+    counting-more ((c .before .before .before .loop) .inv) (feed .result) (feed .ensures .0) (d .result) (omega arith) (d .ensures .0) (d .ensures .2) .0
 
 pub count-paragraphs-spec : {M : Type 1} → statement M
 count-paragraphs-spec =
@@ -51,9 +58,10 @@ count-paragraphs-spec =
     Inv-loop
     μ-loop
     loop-holds
-    next-break-requires
+    next-blank-requires
     add-k
     returns
+    add-break-end
     break-end-requires
     loop-less
     loop-again)
