@@ -10,3 +10,5 @@ pub mod PutLaws
 pub mod SplitLaws
 pub mod Tabled
 pub mod Utf8Laws
+pub mod RoundLaws
+pub mod XmlLaws

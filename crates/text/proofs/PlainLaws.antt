@@ -15,6 +15,8 @@ use Rattle.text.specs.Utf8.{encode, codePoint}
 use Rattle.text.specs.Text.{bytes, part}
 use Rattle.text.specs.Plain.{noDollar, plain}
 use Rattle.text.specs.Any.{any, contains}
+use Rattle.text.specs.Xml.{xmlEscape, xmlText, inText}
+use Rattle.text.specs.declared.Dialect.{Dialect}
 use Rattle.text.proofs.Cases.{by-test, by-order}
 use Rattle.text.proofs.EncodeLaws.{encode-1, encode-2, encode-3, encode-4}
 use Rattle.text.proofs.Utf8Laws.{every, ascii-point, high-point}
@@ -115,3 +117,27 @@ pub listed-plain : (l : List String) (i : ℕ) → every textPlain l ≡ true �
 listed-plain [] i e = refl
 listed-plain (t ∷ l) zero e = and-eq-true-iff (textPlain t) (every textPlain l) .0 e .0
 listed-plain (t ∷ l) (suc i) e = listed-plain l i (and-eq-true-iff (textPlain t) (every textPlain l) .0 e .1)
+
+-- ---- a formula's text in a dialect: a reference has no dollar
+
+reference-plain : (b : ℕ) → noDollar b ≡ true → plain (xmlEscape b) ≡ true
+unfolding plain xmlEscape
+reference-plain b h =
+    by-test (eqb b 60)
+    (λ e. rw (xmlEscape, e) (plain-bytes _ refl))
+    (λ e.
+    by-test (eqb b 62)
+    (λ f. rw (xmlEscape, e, f) (plain-bytes _ refl))
+    (λ f. by-test (eqb b 38) (λ g. rw (xmlEscape, e, f, g) (plain-bytes _ refl)) (λ g. rw (xmlEscape, e, f, g, h))))
+
+xml-plain : (l : List ℕ) → plain l ≡ true → plain (xmlText l) ≡ true
+unfolding plain xmlText
+xml-plain [] h = refl
+xml-plain (b ∷ l) h =
+    let k = plain-cons b l h in
+    simp (plain-append, reference-plain b (k .0), xml-plain l (k .1))
+
+pub plain-text : (d : Dialect) (l : List ℕ) → plain l ≡ true → plain (inText d l) ≡ true
+unfolding inText
+plain-text Dialect.Old l h = h
+plain-text Dialect.Strict l h = xml-plain l h

@@ -4,4 +4,5 @@ pub mod Text
 pub mod Plain
 pub mod Any
 pub mod Put
+pub mod Xml
 pub mod Examples

@@ -1,5 +1,6 @@
 // UTF-8 text as bytes: the Rust's `Chars` and `str`.
 pub mod put;
+pub mod xml;
 
 ghost use mathlib.Core.Path.{_≡_};
 ghost use mathlib.Core.List.{List, _∷_};
@@ -8,6 +9,12 @@ ghost use lib.ListN.{length, drop};
 ghost use Rattle.text.specs.Utf8.{table, follow, goesOn, wellFormed, lead, replacement, codePoint};
 ghost use Rattle.text.specs.Follow.{pending, ranges, after, read};
 ghost use Rattle.text.specs.Any.{contains, hasNul, isAscii};
+
+// How markup is printed: byte for byte as the Rust prints it, or as XML that a strict reader takes.
+pub enum Dialect {
+    Old,
+    Strict,
+}
 
 // A code point and the number of bytes that it takes.
 pub struct CodePoint {
