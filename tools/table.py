@@ -8,7 +8,7 @@ Run it at the repository's root, then `rt fmt`. It writes, below crates/token,
   specs/Code.antt   the token that a code stands for
   src/table.rt      both in Rattle, with a name as words of four bytes
 Nothing of it is trusted: the check holds `table::table` to specs/Table.antt and `table::token_of` to specs/Code.antt,
-and proofs/Agree.antt holds these two to specs/Arms.antt.
+and proofs/Agree.antt holds these two to the arms of specs/Command.antt: one of our own (OWN) before the Rust's.
 """
 import re
 import struct
@@ -23,6 +23,9 @@ CRATE = Path("crates/token")
 STRING = r'"(?:\\.|[^"\\])*"'
 CHARACTER = r"'(?:\\.|[^'\\])+'"
 WIDTH = r"-?\d+\.(?:/\d+\.)?"
+
+# The arms of our own, `ownArms` of specs/Command.antt: each is taken instead of the Rust's arm of that name.
+OWN = {'"ni"': "Token::Operator('∋')"}
 
 # A command's name, in bytes and as the Rust quotes it, and its token: a form, and the number that its `n` stands for.
 Arm = namedtuple("Arm", "name quoted form number")
@@ -56,7 +59,7 @@ def stop(why):
 # ---- the arms of the Rust
 
 def read_arms(path):
-    """The arms sorted by name: no two have the same."""
+    """The arms sorted by name, with our own instead of the Rust's: no two have the same."""
     arms = {}
     for quoted, token in re.findall(rf"^\s*({STRING})\s*=>\s*(Token::.*?),\s*$", read(path), re.M):
         name = unescape(quoted).encode()
@@ -65,6 +68,9 @@ def read_arms(path):
         arms[name] = Arm(name, quoted, *form_and_number(token))
     if not arms:
         stop(f"{path} has no arm from a string to a token; it is not the Rust's token.rs")
+    for quoted, token in OWN.items():
+        name = unescape(quoted).encode()
+        arms[name] = Arm(name, quoted, *form_and_number(token))
     return sorted(arms.values())
 
 
@@ -141,8 +147,8 @@ def hexadecimal(word):
 # ---- specs/Table.antt
 
 TABLE_SPEC = Template("""\
--- The command table: the names of `Arms`, sorted by their bytes, each with the code of its token (`Code`). Written by tools/table.py;
--- the law file `Agree` shows its order, and that it says what `Arms` says.
+-- The command table: the names of `ownArms`, sorted by their bytes, each with the code of its token (`Code`). Written by tools/table.py;
+-- the law file `Agree` shows its order, and that it says what `ownArms` says.
 -- Assumes nothing.
 use mathlib.Core.List.{List, [], _∷_}
 use Prim.Native.Nat.{ℕ}

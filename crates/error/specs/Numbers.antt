@@ -18,6 +18,7 @@ use Rattle.error.specs.declared.Refusal.the-variants.{
   OutputTooSmall,
   RepeatedMark,
   NulByte,
+  ForbiddenCharacter,
 }
 
 unfoldable pub number : Refusal → ℕ
@@ -35,3 +36,4 @@ number WorkTooSmall = 11
 number OutputTooSmall = 12
 number RepeatedMark = 13
 number NulByte = 14
+number ForbiddenCharacter = 15

@@ -15,4 +15,5 @@ pub enum Refusal {
     OutputTooSmall,
     RepeatedMark,
     NulByte,
+    ForbiddenCharacter,
 }

@@ -1,4 +1,5 @@
 pub mod OutcomeLaws
+pub mod MannerLaws
 pub mod MathLaws
 pub mod TranslateLaws
 pub mod LayLaws

@@ -31,6 +31,13 @@ number-range Refusal.WorkTooSmall = (omega arith, omega arith)
 number-range Refusal.OutputTooSmall = (omega arith, omega arith)
 number-range Refusal.RepeatedMark = (omega arith, omega arith)
 number-range Refusal.NulByte = (omega arith, omega arith)
+number-range Refusal.ForbiddenCharacter = (omega arith, omega arith)
+
+-- steps one behind the other, in one way or the other
+pub bind-bind : {A B C : Type 0} (first : Outcome A) (second : A → Outcome B) (third : B → Outcome C) → (first >>= second >>= third) ≡ (first >>= (λ a. second a >>= third))
+unfolding _>>=_
+bind-bind (accepted a) second third = refl
+bind-bind (refused r) second third = refl
 
 -- a first step's result, with which the second is accepted
 pub record Steps {A B : Type 0} (first : Outcome A) (second : A → Outcome B) (b : B) : Type 0 where

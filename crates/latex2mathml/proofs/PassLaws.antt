@@ -15,6 +15,7 @@ use Rattle.text.proofs.Cases.{never}
 use Rattle.attribute.specs.declared.DisplayStyle.{DisplayStyle}
 use Rattle.error.specs.declared.Refusal.{Refusal}
 use Rattle.latex2mathml.specs.declared.Answer.{Answer}
+use Rattle.latex2mathml.specs.declared.Manner.{Manner}
 use Rattle.latex2mathml.specs.Outcome.{Outcome, accepted, refused, _>>=_}
 use Rattle.latex2mathml.specs.Replace.{threeDollars, places, odd, translateBody, substitute}
 use Rattle.latex2mathml.specs.Dollars.{mark, width, nextPlace}
@@ -74,18 +75,18 @@ sofar-more o₀ o o′ start at at′ done bs h e p same small =
 
 -- ---- the pass
 
-module _ (store : ℕ) (display : DisplayStyle) (double : Bool) (s : List ℕ) (w : ℕ) where
+module _ (manner : Manner) (store : ℕ) (display : DisplayStyle) (double : Bool) (s : List ℕ) (w : ℕ) where
   abbrev marks : ℕ → List ℕ
   marks from = places (mark double) from (drop from s)
 
   abbrev rest : ℕ → Outcome (List ℕ)
-  rest from = substitute store display w s from (marks from)
+  rest from = substitute manner store display w s from (marks from)
 
   -- the text up to `from` is done and laid up to the place `at`
   pub record Passing (o₀ o : List ℕ) (start at from : ℕ) : Type 0 where
     pub wide : w ≡ width double
     pub done : List ℕ
-    pub whole : passed store display double s ≡ (rest from >>= (λ l. accepted (done ++ l)))
+    pub whole : passed manner store display double s ≡ (rest from >>= (λ l. accepted (done ++ l)))
     pub sofar : Sofar o₀ o start at done
     pub most : at ≤ start + from * growth
     pub inside : from ≤ length s
@@ -113,7 +114,7 @@ module _ (store : ℕ) (display : DisplayStyle) (double : Bool) (s : List ℕ) (
 
     pub passing-all : (o′ : List ℕ) {a r : ℕ} → a ≡ nextPlace (mark double) from (drop from s) → a ≡ length s → r ≡ at + length (part from (length s) s)
         → Laid o o′ at (part from (length s) s) → length o′ ≡ length o
-        → Lays (passed store display double s) o₀ o′ start (Answer.Accepted r) × AtMost (start + length s * growth) (Answer.Accepted r)
+        → Lays (passed manner store display double s) o₀ o′ start (Answer.Accepted r) × AtMost (start + length s * growth) (Answer.Accepted r)
     unfolding substitute _>>=_
     passing-all o′ {a} {r} e end place laid same =
         let most = h .most in
@@ -156,22 +157,22 @@ module _ (store : ℕ) (display : DisplayStyle) (double : Bool) (s : List ℕ) (
             omega arith
 
         -- the whole, with the body translated or refused
-        whole-next : (m : List ℕ) → translateBody store display (part (a + w) b s) ≡ accepted m
-            → passed store display double s ≡ (rest (b + w) >>= (λ l. accepted (((h .done ++ part from a s) ++ m) ++ l)))
+        whole-next : (m : List ℕ) → translateBody manner store display (part (a + w) b s) ≡ accepted m
+            → passed manner store display double s ≡ (rest (b + w) >>= (λ l. accepted (((h .done ++ part from a s) ++ m) ++ l)))
         unfolding substitute _>>=_
         whole-next m is = h .whole ∙ rw (p .marks, substitute, is) (more-done (rest (b + w)) (h .done) (part from a s) m)
 
-        body-most : (m : List ℕ) → translateBody store display (part (a + w) b s) ≡ accepted m → at₁ + length m ≤ start + (b + w) * growth
+        body-most : (m : List ℕ) → translateBody manner store display (part (a + w) b s) ≡ accepted m → at₁ + length m ≤ start + (b + w) * growth
         body-most m is =
-            let short = translated-short (part (a + w) b s) display store m is in
+            let short = translated-short manner (part (a + w) b s) display store m is in
             let n = length-part (a + w) b s in
             let most = prose-most in
             let gap = p .gap in
             let some = p .some in
             omega arith
 
-        pub body-room : (sure : Bool) → (sure ≡ true → Fits (passed store display double s) o₀ start)
-            → RoomFor (translateBody store display (part (a + w) b s)) sure o₁ at₁
+        pub body-room : (sure : Bool) → (sure ≡ true → Fits (passed manner store display double s) o₀ start)
+            → RoomFor (translateBody manner store display (part (a + w) b s)) sure o₁ at₁
         body-room sure fits m is =
             let most = body-most m is in
             let last = p .last in
@@ -188,8 +189,8 @@ module _ (store : ℕ) (display : DisplayStyle) (double : Bool) (s : List ℕ) (
             }
 
         pub passing-refused : (o₂ : List ℕ) (r : Refusal)
-            → Lays (translateBody store display (part (a + w) b s)) o₁ o₂ at₁ (Answer.Refused r)
-            → Lays (passed store display double s) o₀ o₂ start (Answer.Refused r) × AtMost (start + length s * growth) (Answer.Refused r)
+            → Lays (translateBody manner store display (part (a + w) b s)) o₁ o₂ at₁ (Answer.Refused r)
+            → Lays (passed manner store display double s) o₀ o₂ start (Answer.Refused r) × AtMost (start + length s * growth) (Answer.Refused r)
         unfolding substitute _>>=_
         passing-refused o₂ r (is, front) =
             let place₁ = prose .place in (
@@ -201,7 +202,7 @@ module _ (store : ℕ) (display : DisplayStyle) (double : Bool) (s : List ℕ) (
             )
 
         pub passing-more : {o₂ : List ℕ} (r : ℕ) → length o₂ ≡ length o₁
-            → Lays (translateBody store display (part (a + w) b s)) o₁ o₂ at₁ (Answer.Accepted r)
+            → Lays (translateBody manner store display (part (a + w) b s)) o₁ o₂ at₁ (Answer.Accepted r)
             → Passing o₀ o₂ start r (b + w)
         passing-more {o₂} r same₂ q =
             let most = body-most (q .text) (q .is) in

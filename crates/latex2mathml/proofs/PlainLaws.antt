@@ -15,23 +15,22 @@ use Rattle.markup.specs.Print.{printAll}
 use Rattle.markup.proofs.PlainLaws.{all-plain}
 use Rattle.parser.specs.Parse.{Parsed, parse}
 use Rattle.parser.proofs.PlainLaws.{Fine, fine, nothing, parse-plain}
-use Rattle.latex2mathml.specs.Outcome.{accepted, refused, _>>=_, depthLimit}
-use Rattle.latex2mathml.specs.Translate.{convertContent, inMath, latexToMathml}
+use Rattle.latex2mathml.specs.declared.Manner.{Manner}
+use Rattle.latex2mathml.specs.Outcome.{accepted, depthLimit}
+use Rattle.latex2mathml.specs.Translate.{outcome, inMath, latexToMathml}
+use Rattle.latex2mathml.proofs.MannerLaws.{said}
 
 math-plain : (display : DisplayStyle) (m : List ℕ) → plain m ≡ true → plain (inMath display m) ≡ true
 unfolding inMath
 math-plain display m h = simp (joined, display-plain display, h)
 
--- the markup of the nodes that were read
-read-plain : (s : List ℕ) (display : DisplayStyle) (m : List ℕ) → plain s ≡ true → (x : Parsed Nodes) → Fine AllPlain x
-    → ((elim x [ Parsed.made ns p ↦ accepted (printAll s ns) | Parsed.refused r ↦ refused r ]) >>= (λ mathml. accepted (inMath display mathml))) ≡ accepted m
-    → plain m ≡ true
-unfolding _>>=_
-read-plain s display m body x (fine ns q h i) e =
-    let same : inMath display (printAll s ns) ≡ m = cc in
-    rw (← same) (math-plain display (printAll s ns) (all-plain s body ns h))
-read-plain s display m body x (nothing z) e = never (cc)
+-- the nodes that were parsed
+parsed-plain : (x : Parsed Nodes) → Fine AllPlain x → (ns : Nodes) → outcome x ≡ accepted ns → AllPlain ns
+unfolding outcome
+parsed-plain x (fine ms q h i) ns e = let same : ms ≡ ns = cc in rw (← same) h
+parsed-plain x (nothing z) ns e = never (cc)
 
-pub markup-plain : (s : List ℕ) (display : DisplayStyle) (m : List ℕ) → plain s ≡ true → latexToMathml s display ≡ accepted m → plain m ≡ true
-unfolding latexToMathml convertContent
-markup-plain s display m body e = read-plain s display m body (parse depthLimit s) (parse-plain depthLimit s body) e
+pub markup-plain : (manner : Manner) (s : List ℕ) (display : DisplayStyle) (m : List ℕ) → plain s ≡ true → latexToMathml manner s display ≡ accepted m → plain m ≡ true
+markup-plain manner s display m body e =
+    let r = said manner s display m e in
+    rw (← r .is) (math-plain display _ (all-plain (manner .dialect) s body (r .nodes) (parsed-plain _ (parse-plain depthLimit s body) (r .nodes) (r .parsed))))

@@ -10,6 +10,7 @@ use Rattle.text.specs.Put.{put, Room, Puts}
 use Rattle.attribute.specs.declared.DisplayStyle.{DisplayStyle}
 use Rattle.error.specs.declared.Refusal.{Refusal}
 use Rattle.latex2mathml.specs.declared.Answer.{Answer}
+use Rattle.latex2mathml.specs.declared.Manner.{Manner}
 use Rattle.latex2mathml.specs.Outcome.{Outcome, accepted, refused, _>>=_, refuse}
 use Rattle.latex2mathml.specs.Replace.{threeDollars, places, odd, substitute}
 use Rattle.latex2mathml.specs.Dollars.{mark, width}
@@ -58,8 +59,8 @@ abbrev pub inRoom : ℕ → Outcome (List ℕ) → Outcome (List ℕ)
 inRoom room want = want >>= (λ output. refuse (ltb room (length output)) Refusal.OutputTooSmall >>= (λ _. accepted output))
 
 -- a pass: the text with the bodies between its marks translated
-abbrev pub passed : ℕ → DisplayStyle → Bool → List ℕ → Outcome (List ℕ)
-passed store display double s = substitute store display (width double) s 0 (places (mark double) 0 s)
+abbrev pub passed : Manner → ℕ → DisplayStyle → Bool → List ℕ → Outcome (List ℕ)
+passed m store display double s = substitute m store display (width double) s 0 (places (mark double) 0 s)
 
 -- no byte of a text grows to more than this many in a pass
 abbrev pub growth : ℕ
@@ -67,11 +68,11 @@ growth = 2 ^ 19
 
 -- what a pass asks for: places that are numbers of the machine, marks that are even in number and do not overlap,
 -- and a text that fits where it is sure to
-pub record Passable (store : ℕ) (display : DisplayStyle) (double : Bool) (s : List ℕ) (sure : Bool) (o : List ℕ) (at : ℕ) : Type 0 where
+pub record Passable (m : Manner) (store : ℕ) (display : DisplayStyle) (double : Bool) (s : List ℕ) (sure : Bool) (o : List ℕ) (at : ℕ) : Type 0 where
   pub small : at + length s * growth < 2 ^ 64
   pub even : odd (places (mark double) 0 s) ≡ false
   pub apart : double ≡ true → ltb 0 (length (places threeDollars 0 s)) ≡ false
-  pub fits : sure ≡ true → Fits (passed store display double s) o at
+  pub fits : sure ≡ true → Fits (passed m store display double s) o at
 
 -- how long an accepted answer is at most
 abbrev pub AtMost : ℕ → Answer → Type 0

@@ -1,9 +1,11 @@
 pub mod Outcome
+pub mod Manner
 pub mod Translate
 pub mod Replace
 pub mod Written
 pub mod Dollars
 pub mod Search
 pub mod Laid
+pub mod Related
 pub mod Marked
 pub mod Examples

@@ -6,6 +6,7 @@ use Prim.Native.Nat.{ℕ}
 use Prim.Native.String.{String}
 use lib.ListN.{length}
 use Rattle.text.specs.Text.{bytes}
+use Rattle.text.specs.Xml.{allows, forbidden}
 use Rattle.text.specs.Examples.{text-opens}
 use Rattle.attribute.specs.declared.DisplayStyle.{DisplayStyle}
 use Rattle.attribute.specs.Names.{attribute-opens}
@@ -16,12 +17,13 @@ use Rattle.ast.specs.Tree.{ast-opens}
 use Rattle.markup.specs.Examples.{markup-opens}
 use Rattle.parser.specs.Examples.{parse-opens}
 use Rattle.latex2mathml.specs.Outcome.{Outcome, bodyLimit, documentLimit, depthLimit, recordSize, _>>=_, refuse, numberOf, bytesOf}
-use Rattle.latex2mathml.specs.Translate.{convertContent, inMath, latexToMathml, storeTooSmall, translate}
+use Rattle.latex2mathml.specs.Manner.{old, isStrict}
+use Rattle.latex2mathml.specs.Translate.{outcome, readBody, convertContent, inMath, latexToMathml, storeTooSmall, translate}
 use Rattle.latex2mathml.specs.Replace.{dollar, twoDollars, threeDollars, places, odd, translateBody, substitute, firstPass, secondPass, replacement, Replaced, replaceOutcome, replace}
 
 -- whoever unfolds this unfolds all definitions of this crate and of those below it, as an example has to
 unfoldable pub latex2mathml-opens : Unit {0}
-unfolding text-opens attribute-opens number token-opens lexer-opens ast-opens markup-opens parse-opens bodyLimit documentLimit depthLimit recordSize _>>=_ refuse numberOf bytesOf convertContent inMath latexToMathml storeTooSmall translate dollar twoDollars threeDollars places odd translateBody substitute firstPass secondPass replacement replaceOutcome replace
+unfolding text-opens attribute-opens number token-opens lexer-opens ast-opens markup-opens parse-opens bodyLimit documentLimit depthLimit recordSize _>>=_ refuse numberOf bytesOf allows forbidden isStrict outcome readBody convertContent inMath latexToMathml storeTooSmall translate dollar twoDollars threeDollars places odd translateBody substitute firstPass secondPass replacement replaceOutcome replace
 latex2mathml-opens = tt
 
 -- a line: a body with its markup, the wrapper left off, or with the number of its refusal; the length of the empty body's
@@ -53,10 +55,10 @@ lines =
 
 -- the lent sizes of the page program
 unfoldable pub translated : String → DisplayStyle → Outcome (List ℕ)
-translated latex display = translate (bytes latex) display 61440 65536
+translated latex display = translate old (bytes latex) display 61440 65536
 
 unfoldable pub replaced : String → Replaced
-replaced document = replace (bytes document) 61440 65536 65536
+replaced document = replace old (bytes document) 61440 65536 65536
 
 -- the number returned and the output
 unfoldable pub answer : Outcome (List ℕ) → List (List ℕ)

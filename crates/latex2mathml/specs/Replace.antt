@@ -1,4 +1,4 @@
--- Replacement: the Rust's `replace`, at the lent sizes.
+-- Replacement in a manner: the Rust's `replace`, at the lent sizes.
 -- Assumes nothing.
 use mathlib.Core.Bool.{Bool, true, false, not, _&&_, _||_}
 use mathlib.Core.List.{List, [], _∷_, _++_}
@@ -12,6 +12,7 @@ use Rattle.text.specs.Text.{part}
 use Rattle.attribute.specs.declared.DisplayStyle.{DisplayStyle}
 use Rattle.error.specs.declared.Refusal.{Refusal}
 use Rattle.latex2mathml.specs.Outcome.{Outcome, accepted, refused, _>>=_, refuse, bytesOf, bodyLimit, documentLimit}
+use Rattle.latex2mathml.specs.declared.Manner.{Manner}
 use Rattle.latex2mathml.specs.Translate.{latexToMathml, storeTooSmall}
 
 -- the bytes begin with a dollar, with two, with three
@@ -34,60 +35,60 @@ unfoldable pub odd : List ℕ → Bool
 odd l = eqb (length l % 2) 1
 
 -- a body of a document, which is well-formed where the document is, and has no NUL where the document has none
-unfoldable pub translateBody : ℕ → DisplayStyle → List ℕ → Outcome (List ℕ)
-translateBody store display s = do
+unfoldable pub translateBody : Manner → ℕ → DisplayStyle → List ℕ → Outcome (List ℕ)
+translateBody m store display s = do
   _ ← refuse (ltb bodyLimit (length s)) Refusal.TooLong
   _ ← storeTooSmall store s
-  latexToMathml s display
+  latexToMathml m s display
 
 -- the text from `from` on, with the bodies between the marks, taken first with second, third with fourth, translated;
 -- a mark is `width` dollars
-unfoldable pub substitute : ℕ → DisplayStyle → ℕ → List ℕ → ℕ → List ℕ → Outcome (List ℕ)
-substitute store display width s from [] = accepted (drop from s)
-substitute store display width s from (a ∷ []) = accepted (drop from s)
-substitute store display width s from (a ∷ (b ∷ marks)) = do
-  mathml ← translateBody store display (part (a + width) b s)
-  rest ← substitute store display width s (b + width) marks
+unfoldable pub substitute : Manner → ℕ → DisplayStyle → ℕ → List ℕ → ℕ → List ℕ → Outcome (List ℕ)
+substitute m store display width s from [] = accepted (drop from s)
+substitute m store display width s from (a ∷ []) = accepted (drop from s)
+substitute m store display width s from (a ∷ (b ∷ marks)) = do
+  mathml ← translateBody m store display (part (a + width) b s)
+  rest ← substitute m store display width s (b + width) marks
   accepted (part from a s ++ mathml ++ rest)
 
 -- pass one: the overlapping windows of two dollars, bodies as block, up to the text that goes to the work buffer
-unfoldable pub firstPass : List ℕ → ℕ → ℕ → Outcome (List ℕ)
-firstPass document store work = do
+unfoldable pub firstPass : Manner → List ℕ → ℕ → ℕ → Outcome (List ℕ)
+firstPass m document store work = do
   _ ← refuse (ltb documentLimit (length document)) Refusal.TooLong
   _ ← refuse (not (wellFormed document)) Refusal.IllFormed
   _ ← refuse (hasNul document) Refusal.NulByte
   let windows = places twoDollars 0 document
   _ ← refuse (odd windows) Refusal.InvalidNumberOfDollarSigns
   _ ← refuse (ltb 0 (length (places threeDollars 0 document))) Refusal.ThreeDollarSigns
-  text ← substitute store DisplayStyle.Block 2 document 0 windows
+  text ← substitute m store DisplayStyle.Block 2 document 0 windows
   _ ← refuse (ltb work (length text)) Refusal.WorkTooSmall
   accepted text
 
 -- pass two: the single dollars of the text of pass one, bodies as inline
-unfoldable pub secondPass : ℕ → List ℕ → Outcome (List ℕ)
-secondPass store text = do
+unfoldable pub secondPass : Manner → ℕ → List ℕ → Outcome (List ℕ)
+secondPass m store text = do
   let dollars = places dollar 0 text
   _ ← refuse (odd dollars) Refusal.InvalidNumberOfDollarSigns
-  substitute store DisplayStyle.Inline 1 text 0 dollars
+  substitute m store DisplayStyle.Inline 1 text 0 dollars
 
 -- the replacement with an output long enough
-unfoldable pub replacement : List ℕ → ℕ → ℕ → Outcome (List ℕ)
-replacement document store work = do
-  text ← firstPass document store work
-  secondPass store text
+unfoldable pub replacement : Manner → List ℕ → ℕ → ℕ → Outcome (List ℕ)
+replacement m document store work = do
+  text ← firstPass m document store work
+  secondPass m store text
 
 -- the answer, and the bytes with which the work buffer begins afterwards
 pub record Replaced : Type 0 where
   pub outcome : Outcome (List ℕ)
   pub work : List ℕ
 
-unfoldable pub replaceOutcome : List ℕ → ℕ → ℕ → ℕ → Outcome (List ℕ)
-replaceOutcome document store work room = do
-  output ← replacement document store work
+unfoldable pub replaceOutcome : Manner → List ℕ → ℕ → ℕ → ℕ → Outcome (List ℕ)
+replaceOutcome m document store work room = do
+  output ← replacement m document store work
   _ ← refuse (ltb room (length output)) Refusal.OutputTooSmall
   accepted output
 
 -- the replacement in a document, with `store`, `work` and `room` bytes lent for the records, the work buffer and the output
-unfoldable pub replace : List ℕ → ℕ → ℕ → ℕ → Replaced
-replace document store work room =
-    record { outcome = replaceOutcome document store work room; work = bytesOf (firstPass document store work) }
+unfoldable pub replace : Manner → List ℕ → ℕ → ℕ → ℕ → Replaced
+replace m document store work room =
+    record { outcome = replaceOutcome m document store work room; work = bytesOf (firstPass m document store work) }

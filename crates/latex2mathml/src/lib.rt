@@ -5,8 +5,14 @@ pub mod search;
 pub mod translate;
 
 use error::Refusal;
+use text::Dialect;
 ghost use mathlib.Core.Path.{_≡_};
 ghost use Rattle.error.specs.Numbers.{number};
+
+// How an operation prints.
+pub struct Manner {
+    pub dialect: Dialect,
+}
 
 // What an operation that writes gives: the length of what it wrote, or why it wrote nothing.
 pub enum Answer {
@@ -33,5 +39,6 @@ pub fn number(r: Refusal) -> u32
         Refusal::OutputTooSmall => 12,
         Refusal::RepeatedMark => 13,
         Refusal::NulByte => 14,
+        Refusal::ForbiddenCharacter => 15,
     }
 }

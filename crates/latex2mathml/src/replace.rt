@@ -1,5 +1,6 @@
 // Replacement: the Rust's `replace`, in two passes over a document.
 use crate::Answer;
+use crate::Manner;
 use crate::dollars::first_mark;
 use crate::dollars::is_prose;
 use crate::dollars::next_mark;
@@ -7,10 +8,10 @@ use crate::dollars::odd_marks;
 use crate::dollars::three_dollars;
 use crate::translate::math_len;
 use crate::translate::put_math;
+use crate::translate::read_body;
 use attribute::DisplayStyle;
 use error::Refusal;
 use parse::ParsedNodes;
-use parse::body::parse;
 use text::has_nul;
 use text::put::put;
 use text::well_formed;
@@ -21,6 +22,7 @@ ghost use mathlib.Core.Bool.{true};
 ghost use Prim.Native.Nat.{ℕ, _+_, _*_, _^_, _≤_, _<_};
 ghost use lib.ListN.{length};
 ghost use Rattle.token.specs.Key.{rows};
+ghost use Rattle.latex2mathml.specs.declared.Manner.{Manner};
 ghost use Rattle.latex2mathml.specs.Replace.{translateBody, firstPass, secondPass, replacement};
 ghost use Rattle.latex2mathml.specs.Dollars.{width, isProse};
 ghost use Rattle.latex2mathml.specs.Written.{Free, Gives, Replaces};
@@ -40,6 +42,7 @@ pub fn lay(piece: &[u8], out: &mut [u8], at: usize) -> usize
 
 // Lays the markup of a body at a place, or counts it where it does not fit; what is sure to fit is not measured first.
 fn lay_body(
+    manner: Manner,
     s: &[u8],
     display: DisplayStyle,
     store: &mut [u8],
@@ -48,22 +51,23 @@ fn lay_body(
     sure: bool,
     table: &Table,
 ) -> Answer
-    requires { ⌜ RoomFor (translateBody (length (now store)) display (now s)) sure (now out) at × (now table ≡ rows) ⌝ }
-    ensures { λ r. ⌜ Lays (translateBody (length (now (store .entry))) display (now (s .entry))) (now (out .entry)) (now (out .exit)) at r ⌝ }
+    requires { ⌜ RoomFor (translateBody manner (length (now store)) display (now s)) sure (now out) at × (now table ≡ rows) ⌝ }
+    ensures { λ r. ⌜ Lays (translateBody manner (length (now (store .entry))) display (now (s .entry))) (now (out .entry)) (now (out .exit)) at r ⌝ }
 {
-    match parse(s, store, 256, table) {
+    match read_body(manner, s, store, table) {
         ParsedNodes::Refused(r) => Answer::Refused(r),
         ParsedNodes::Nodes(first, count, made) => {
+            let dialect = manner.dialect;
             let n = count as u32;
             if sure {
-                let end = put_math(s, display, store, first, n, made, out, at, table);
+                let end = put_math(dialect, s, display, store, first, n, made, out, at, table);
                 return Answer::Accepted(end);
             }
-            let end = at + math_len(s, display, store, made, table);
+            let end = at + math_len(dialect, s, display, store, made, table);
             if out.len() < end {
                 return Answer::Accepted(end);
             }
-            put_math(s, display, store, first, n, made, out, at, table);
+            put_math(dialect, s, display, store, first, n, made, out, at, table);
             Answer::Accepted(end)
         }
     }
@@ -81,6 +85,7 @@ fn width(double: bool) -> usize
 
 // Lays a text with the bodies between its marks translated; the marks are taken first with second, third with fourth.
 fn substitute(
+    manner: Manner,
     s: &[u8],
     double: bool,
     display: DisplayStyle,
@@ -90,8 +95,8 @@ fn substitute(
     sure: bool,
     table: &Table,
 ) -> Answer
-    requires { ⌜ Passable (length (now store)) display double (now s) sure (now out) start × (now table ≡ rows) ⌝ }
-    ensures { λ r. ⌜ Lays (passed (length (now (store .entry))) display double (now (s .entry))) (now (out .entry)) (now (out .exit)) start r × AtMost (start + length (now (s .entry)) * growth) r ⌝ }
+    requires { ⌜ Passable manner (length (now store)) display double (now s) sure (now out) start × (now table ≡ rows) ⌝ }
+    ensures { λ r. ⌜ Lays (passed manner (length (now (store .entry))) display double (now (s .entry))) (now (out .entry)) (now (out .exit)) start r × AtMost (start + length (now (s .entry)) * growth) r ⌝ }
 {
     let width = width(double);
     let mut from: usize = 0;
@@ -103,7 +108,16 @@ fn substitute(
         }
         let b = next_mark(s, a + width, double);
         at = lay(&s[from..a], out, at);
-        match lay_body(&s[a + width..b], display, store, out, at, sure, table) {
+        match lay_body(
+            manner,
+            &s[a + width..b],
+            display,
+            store,
+            out,
+            at,
+            sure,
+            table,
+        ) {
             Answer::Refused(r) => {
                 return Answer::Refused(r);
             }
@@ -117,6 +131,7 @@ fn substitute(
 
 // Writes the text of a pass that was measured, and so is not refused; the answer is the place behind it.
 fn write_pass(
+    manner: Manner,
     s: &[u8],
     double: bool,
     display: DisplayStyle,
@@ -125,10 +140,10 @@ fn write_pass(
     at: usize,
     table: &Table,
 ) -> usize
-    requires { ⌜ Passable (length (now store)) display double (now s) true (now out) at × (now table ≡ rows) ⌝ }
-    ensures { λ r. ⌜ WrittenThere (passed (length (now (store .entry))) display double (now (s .entry))) (now (out .entry)) (now (out .exit)) at r × (r ≤ at + length (now (s .entry)) * growth) ⌝ }
+    requires { ⌜ Passable manner (length (now store)) display double (now s) true (now out) at × (now table ≡ rows) ⌝ }
+    ensures { λ r. ⌜ WrittenThere (passed manner (length (now (store .entry))) display double (now (s .entry))) (now (out .entry)) (now (out .exit)) at r × (r ≤ at + length (now (s .entry)) * growth) ⌝ }
 {
-    match substitute(s, double, display, store, out, at, true, table) {
+    match substitute(manner, s, double, display, store, out, at, true, table) {
         Answer::Accepted(end) => end,
         Answer::Refused(r) => at,
     }
@@ -136,6 +151,7 @@ fn write_pass(
 
 // Pass one, with `room` bytes for its text: it goes to a buffer if it fits there. A text without marks is looked through once.
 fn first_pass(
+    manner: Manner,
     document: &[u8],
     store: &mut [u8],
     room: usize,
@@ -143,7 +159,7 @@ fn first_pass(
     table: &Table,
 ) -> Answer
     requires { ⌜ now table ≡ rows ⌝ }
-    ensures { λ r. ⌜ Lays (firstPass (now (document .entry)) (length (now (store .entry))) room) (now (out .entry)) (now (out .exit)) 0 r × AtMost (length (now (document .entry)) * growth) r ⌝ }
+    ensures { λ r. ⌜ Lays (firstPass manner (now (document .entry)) (length (now (store .entry))) room) (now (out .entry)) (now (out .exit)) 0 r × AtMost (length (now (document .entry)) * growth) r ⌝ }
 {
     if 32768 < document.len() {
         return Answer::Refused(Refusal::TooLong);
@@ -167,6 +183,7 @@ fn first_pass(
         return Answer::Refused(Refusal::ThreeDollarSigns);
     }
     match substitute(
+        manner,
         document,
         true,
         DisplayStyle::Block,
@@ -187,9 +204,16 @@ fn first_pass(
 }
 
 // Pass two: its text goes to a place of a buffer if it fits there.
-fn second_pass(text: &[u8], store: &mut [u8], out: &mut [u8], at: usize, table: &Table) -> Answer
+fn second_pass(
+    manner: Manner,
+    text: &[u8],
+    store: &mut [u8],
+    out: &mut [u8],
+    at: usize,
+    table: &Table,
+) -> Answer
     requires { ⌜ (at + length (now text) * growth < 2 ^ 64) × (now table ≡ rows) ⌝ }
-    ensures { λ r. ⌜ Lays (secondPass (length (now (store .entry))) (now (text .entry))) (now (out .entry)) (now (out .exit)) at r × AtMost (at + length (now (text .entry)) * growth) r ⌝ }
+    ensures { λ r. ⌜ Lays (secondPass manner (length (now (store .entry))) (now (text .entry))) (now (out .entry)) (now (out .exit)) at r × AtMost (at + length (now (text .entry)) * growth) r ⌝ }
 {
     if first_mark(text, false) == text.len() {
         return Answer::Accepted(lay(text, out, at));
@@ -198,6 +222,7 @@ fn second_pass(text: &[u8], store: &mut [u8], out: &mut [u8], at: usize, table: 
         return Answer::Refused(Refusal::InvalidNumberOfDollarSigns);
     }
     substitute(
+        manner,
         text,
         false,
         DisplayStyle::Inline,
@@ -211,6 +236,7 @@ fn second_pass(text: &[u8], store: &mut [u8], out: &mut [u8], at: usize, table: 
 
 // Writes the text of a pass that was drafted: it is copied, or parsed again where the draft is too short for it.
 fn settle(
+    manner: Manner,
     s: &[u8],
     double: bool,
     display: DisplayStyle,
@@ -220,27 +246,35 @@ fn settle(
     out: &mut [u8],
     table: &Table,
 ) -> usize
-    requires { ⌜ Passable (length (now store)) display double (now s) true (now out) 0 × Begins (passed (length (now store)) display double (now s)) (now draft) n × (now table ≡ rows) ⌝ }
-    ensures { λ r. ⌜ WrittenThere (passed (length (now (store .entry))) display double (now (s .entry))) (now (out .entry)) (now (out .exit)) 0 r ⌝ }
+    requires { ⌜ Passable manner (length (now store)) display double (now s) true (now out) 0 × Begins (passed manner (length (now store)) display double (now s)) (now draft) n × (now table ≡ rows) ⌝ }
+    ensures { λ r. ⌜ WrittenThere (passed manner (length (now (store .entry))) display double (now (s .entry))) (now (out .entry)) (now (out .exit)) 0 r ⌝ }
 {
     if n <= draft.len() {
         return put(&draft[..n], out, 0, true);
     }
-    write_pass(s, double, display, store, out, 0, table)
+    write_pass(manner, s, double, display, store, out, 0, table)
 }
 
 // Pass two, drafted and then written.
-fn finish(text: &[u8], store: &mut [u8], out: &mut [u8], draft: &mut [u8], table: &Table) -> Answer
+fn finish(
+    manner: Manner,
+    text: &[u8],
+    store: &mut [u8],
+    out: &mut [u8],
+    draft: &mut [u8],
+    table: &Table,
+) -> Answer
     requires { ⌜ (length (now text) * growth < 2 ^ 64) × (now table ≡ rows) ⌝ }
-    ensures { λ r. ⌜ Gives (inRoom (length (now (out .entry))) (secondPass (length (now (store .entry))) (now (text .entry)))) r (now (out .entry)) (now (out .exit)) ⌝ }
+    ensures { λ r. ⌜ Gives (inRoom (length (now (out .entry))) (secondPass manner (length (now (store .entry))) (now (text .entry)))) r (now (out .entry)) (now (out .exit)) ⌝ }
 {
-    match second_pass(text, store, draft, 0, table) {
+    match second_pass(manner, text, store, draft, 0, table) {
         Answer::Refused(r) => Answer::Refused(r),
         Answer::Accepted(n) => {
             if out.len() < n {
                 return Answer::Refused(Refusal::OutputTooSmall);
             }
             settle(
+                manner,
                 text,
                 false,
                 DisplayStyle::Inline,
@@ -257,19 +291,21 @@ fn finish(text: &[u8], store: &mut [u8], out: &mut [u8], draft: &mut [u8], table
 
 // The replacement in a document, with an array for its drafts: a pass whose text fits there is parsed once.
 fn replace_in(
+    manner: Manner,
     document: &[u8],
     store: &mut [u8],
     work: &mut [u8],
     out: &mut [u8],
     draft: &mut [u8],
 ) -> Answer
-    ensures { λ r. ⌜ Replaces (now (document .entry)) (length (now (store .entry))) r (now (work .entry)) (now (work .exit)) (now (out .entry)) (now (out .exit)) × Free (now (store .entry)) (now (store .exit)) ⌝ }
+    ensures { λ r. ⌜ Replaces manner (now (document .entry)) (length (now (store .entry))) r (now (work .entry)) (now (work .exit)) (now (out .entry)) (now (out .exit)) × Free (now (store .entry)) (now (store .exit)) ⌝ }
 {
     let commands = table();
-    match first_pass(document, store, work.len(), draft, &commands) {
+    match first_pass(manner, document, store, work.len(), draft, &commands) {
         Answer::Refused(r) => Answer::Refused(r),
         Answer::Accepted(n) => {
             settle(
+                manner,
                 document,
                 true,
                 DisplayStyle::Block,
@@ -279,23 +315,29 @@ fn replace_in(
                 work,
                 &commands,
             );
-            finish(&work[..n], store, out, draft, &commands)
+            finish(manner, &work[..n], store, out, draft, &commands)
         }
     }
 }
 
 // The replacement in a short document, whose drafts take less space to clear.
-fn replace_short(document: &[u8], store: &mut [u8], work: &mut [u8], out: &mut [u8]) -> Answer
-    ensures { λ r. ⌜ Replaces (now (document .entry)) (length (now (store .entry))) r (now (work .entry)) (now (work .exit)) (now (out .entry)) (now (out .exit)) × Free (now (store .entry)) (now (store .exit)) ⌝ }
+fn replace_short(
+    manner: Manner,
+    document: &[u8],
+    store: &mut [u8],
+    work: &mut [u8],
+    out: &mut [u8],
+) -> Answer
+    ensures { λ r. ⌜ Replaces manner (now (document .entry)) (length (now (store .entry))) r (now (work .entry)) (now (work .exit)) (now (out .entry)) (now (out .exit)) × Free (now (store .entry)) (now (store .exit)) ⌝ }
 {
     let mut draft = [0u8; 16384];
-    replace_in(document, store, work, out, &mut draft)
+    replace_in(manner, document, store, work, out, &mut draft)
 }
 
 // The replacement in prose, which is copied without a draft.
 fn replace_prose(document: &[u8], work: &mut [u8], out: &mut [u8]) -> Answer
     requires { ⌜ isProse (now document) ≡ true ⌝ }
-    ensures { λ r. ⌜ ((store : ℕ) → Replaces (now (document .entry)) store r (now (work .entry)) (now (work .exit)) (now (out .entry)) (now (out .exit))) ⌝ }
+    ensures { λ r. ⌜ ((manner : Manner) (store : ℕ) → Replaces manner (now (document .entry)) store r (now (work .entry)) (now (work .exit)) (now (out .entry)) (now (out .exit))) ⌝ }
 {
     if 32768 < document.len() {
         return Answer::Refused(Refusal::TooLong);
@@ -311,21 +353,28 @@ fn replace_prose(document: &[u8], work: &mut [u8], out: &mut [u8]) -> Answer
 }
 
 // The replacement in a document.
-pub fn replace(document: &[u8], store: &mut [u8], work: &mut [u8], out: &mut [u8]) -> Answer
-    ensures { λ r. ⌜ Replaces (now (document .entry)) (length (now (store .entry))) r (now (work .entry)) (now (work .exit)) (now (out .entry)) (now (out .exit)) × Free (now (store .entry)) (now (store .exit)) ⌝ }
+pub fn replace(
+    manner: Manner,
+    document: &[u8],
+    store: &mut [u8],
+    work: &mut [u8],
+    out: &mut [u8],
+) -> Answer
+    ensures { λ r. ⌜ Replaces manner (now (document .entry)) (length (now (store .entry))) r (now (work .entry)) (now (work .exit)) (now (out .entry)) (now (out .exit)) × Free (now (store .entry)) (now (store .exit)) ⌝ }
 {
     if is_prose(document) {
         return replace_prose(document, work, out);
     }
     if document.len() < 2048 {
-        return replace_short(document, store, work, out);
+        return replace_short(manner, document, store, work, out);
     }
     let mut draft = [0u8; 65536];
-    replace_in(document, store, work, out, &mut draft)
+    replace_in(manner, document, store, work, out, &mut draft)
 }
 
 // Lays the replacement in a document at a place, as for an output long enough; the work buffer is left with any bytes.
 pub fn lay_replacement(
+    manner: Manner,
     document: &[u8],
     store: &mut [u8],
     work: &mut [u8],
@@ -334,16 +383,17 @@ pub fn lay_replacement(
     table: &Table,
 ) -> Answer
     requires { ⌜ (at + length (now document) * (growth * growth) < 2 ^ 63) × (now table ≡ rows) ⌝ }
-    ensures { λ r. ⌜ Lays (replacement (now (document .entry)) (length (now (store .entry))) (length (now (work .entry)))) (now (out .entry)) (now (out .exit)) at r × AtMost (at + length (now (document .entry)) * (growth * growth)) r ⌝ }
+    ensures { λ r. ⌜ Lays (replacement manner (now (document .entry)) (length (now (store .entry))) (length (now (work .entry)))) (now (out .entry)) (now (out .exit)) at r × AtMost (at + length (now (document .entry)) * (growth * growth)) r ⌝ }
 {
-    match first_pass(document, store, work.len(), work, table) {
+    match first_pass(manner, document, store, work.len(), work, table) {
         Answer::Refused(r) => Answer::Refused(r),
-        Answer::Accepted(n) => second_pass(&work[..n], store, out, at, table),
+        Answer::Accepted(n) => second_pass(manner, &work[..n], store, out, at, table),
     }
 }
 
 // Writes the replacement that was measured at a place; the answer is the place behind it.
 pub fn write_replacement(
+    manner: Manner,
     document: &[u8],
     store: &mut [u8],
     work: &mut [u8],
@@ -351,11 +401,21 @@ pub fn write_replacement(
     at: usize,
     table: &Table,
 ) -> usize
-    requires { ⌜ Fits (replacement (now document) (length (now store)) (length (now work))) (now out) at × (now table ≡ rows) ⌝ }
-    ensures { λ r. ⌜ WrittenThere (replacement (now (document .entry)) (length (now (store .entry))) (length (now (work .entry)))) (now (out .entry)) (now (out .exit)) at r ⌝ }
+    requires { ⌜ Fits (replacement manner (now document) (length (now store)) (length (now work))) (now out) at × (now table ≡ rows) ⌝ }
+    ensures { λ r. ⌜ WrittenThere (replacement manner (now (document .entry)) (length (now (store .entry))) (length (now (work .entry)))) (now (out .entry)) (now (out .exit)) at r ⌝ }
 {
-    let n = write_pass(document, true, DisplayStyle::Block, store, work, 0, table);
+    let n = write_pass(
+        manner,
+        document,
+        true,
+        DisplayStyle::Block,
+        store,
+        work,
+        0,
+        table,
+    );
     write_pass(
+        manner,
         &work[..n],
         false,
         DisplayStyle::Inline,

@@ -12,10 +12,13 @@ use lib.Dec.{eqb}
 use lib.ListN.{length, take, drop, length-drop}
 use lib.Seq.{take-all, drop-drop}
 use Rattle.text.specs.Utf8.{codePoint, encode}
+use Rattle.text.specs.declared.Dialect.{Dialect}
 use Rattle.text.specs.Put.{Room, Puts}
+use Rattle.text.specs.Xml.{xmlText, inText}
 use Rattle.text.proofs.Cases.{by-test, never}
 use Rattle.text.proofs.Utf8Laws.{width-some}
 use Rattle.text.proofs.PutLaws.{Putting, putting-none, putting-room, putting-more, putting-all}
+use Rattle.text.proofs.XmlLaws.{text-append, same-text}
 use Rattle.attribute.specs.declared.Variant.{Variant}
 use Rattle.token.specs.declared.Token.{Token}
 use Rattle.token.specs.declared.Token.the-variants.{EOF, Begin, End, Ampersand, NewLine, Left, Right, Middle, Paren, LBrace, RBrace, Frac, Underscore, Circumflex, Binom, Overset, Underset, Overbrace, Underbrace, Sqrt, Integral, Lim, Space, Style, Big, Over, Under, Operator, BigOp, Letter, Number, Function, OperatorName, Slashed, Text, Command}
@@ -133,37 +136,37 @@ module _ (t : List ℕ) (i : ℕ) (i-inside : i ≤ length t) (x : Lexeme) (is :
       ap (λ k. lettersWithin k (drop i t)) more ∙ rw (within-some (budget - 1) (drop i t) c some-letter, ← here, drop-drop (x .end) i t)
 
 -- on the way: the letters before the place i are put, and of those behind it the budget is enough
-pub record Reading (write : Bool) (o₀ o : List ℕ) (at place : ℕ) (t : List ℕ) (i : ℕ) : Type 0 where
+pub record Reading (d : Dialect) (write : Bool) (o₀ o : List ℕ) (at place : ℕ) (t : List ℕ) (i : ℕ) : Type 0 where
   pub budget : ℕ
   pub enough : length t ≤ i + budget
   pub inside : i ≤ length t
-  pub putting : Putting write o₀ o at place (encodeAll (letters t)) (encodeAll (lettersWithin budget (drop i t)))
+  pub putting : Putting write o₀ o at place (inText d (encodeAll (letters t))) (inText d (encodeAll (lettersWithin budget (drop i t))))
 
-pub reading-none : (write : Bool) (o : List ℕ) (at : ℕ) (t : List ℕ) → Reading write o o at at t 0
+pub reading-none : (d : Dialect) (write : Bool) (o : List ℕ) (at : ℕ) (t : List ℕ) → Reading d write o o at at t 0
 unfolding letters
-reading-none write o at t = record {
+reading-none d write o at t = record {
   budget = length t;
   enough = omega arith;
   inside = zero-le;
-  putting = putting-none write o at (encodeAll (letters t));
+  putting = putting-none write o at (inText d (encodeAll (letters t)));
 }
 
 -- where the next token is no letter, all letters are put
-pub reading-all : {write : Bool} {o₀ o : List ℕ} {at place : ℕ} {t : List ℕ} {i : ℕ} → Reading write o₀ o at place t i
-    → (x : Lexeme) → x ≡ nextToken 0 (take (length t - i) (drop i t)) → letterOf (x .token) ≡ none → Puts write o₀ o at (encodeAll (letters t)) place
-unfolding encodeAll
-reading-all {t = t} {i} r x is e = putting-all (rw (letters-end (r .budget) t i x is e, encodeAll) at (r .putting))
+pub reading-all : {d : Dialect} {write : Bool} {o₀ o : List ℕ} {at place : ℕ} {t : List ℕ} {i : ℕ} → Reading d write o₀ o at place t i
+    → (x : Lexeme) → x ≡ nextToken 0 (take (length t - i) (drop i t)) → letterOf (x .token) ≡ none → Puts write o₀ o at (inText d (encodeAll (letters t))) place
+unfolding encodeAll xmlText
+reading-all {d} {t = t} {i} r x is e = putting-all (rw (letters-end (r .budget) t i x is e, encodeAll, same-text d [] refl) at (r .putting))
 
 -- where it is a letter, there is room for its character, and behind it the next is read
-module _ {write : Bool} {o₀ o : List ℕ} {at place : ℕ} {t : List ℕ} {i : ℕ} (room : Room write o₀ at (length (encodeAll (letters t)))) (r : Reading write o₀ o at place t i) (x : Lexeme) (is : x ≡ nextToken 0 (take (length t - i) (drop i t))) (c : ℕ) (v : Variant) (e : x .token ≡ Letter c v) where
-  split : encodeAll (lettersWithin (r .budget) (drop i t)) ≡ encode c ++ encodeAll (lettersWithin (r .budget - 1) (drop (i + x .end) t))
+module _ {d : Dialect} {write : Bool} {o₀ o : List ℕ} {at place : ℕ} {t : List ℕ} {i : ℕ} (room : Room write o₀ at (length (inText d (encodeAll (letters t))))) (r : Reading d write o₀ o at place t i) (x : Lexeme) (is : x ≡ nextToken 0 (take (length t - i) (drop i t))) (c : ℕ) (v : Variant) (e : x .token ≡ Letter c v) where
+  split : inText d (encodeAll (lettersWithin (r .budget) (drop i t))) ≡ inText d (encode c) ++ inText d (encodeAll (lettersWithin (r .budget - 1) (drop (i + x .end) t)))
   unfolding encodeAll
-  split = rw (letters-on t i (r .inside) x is c v e (r .budget) (r .enough), encodeAll)
+  split = rw (letters-on t i (r .inside) x is c v e (r .budget) (r .enough), encodeAll) (text-append d (encode c) _)
 
-  pub reading-room : Room write o place (length (encode c))
-  reading-room = putting-room (encode c) _ room (rw split at (r .putting))
+  pub reading-room : Room write o place (length (inText d (encode c)))
+  reading-room = putting-room (inText d (encode c)) _ room (rw split at (r .putting))
 
-  pub reading-more : {o′ : List ℕ} {place′ : ℕ} → Puts write o o′ place (encode c) place′ → Reading write o₀ o′ at place′ t (i + x .end)
+  pub reading-more : {o′ : List ℕ} {place′ : ℕ} → Puts write o o′ place (inText d (encode c)) place′ → Reading d write o₀ o′ at place′ t (i + x .end)
   reading-more p =
       let byte = letter-inside t i (r .inside) x is c v e in
       let enough = r .enough in
@@ -171,5 +174,5 @@ module _ {write : Bool} {o₀ o : List ℕ} {at place : ℕ} {t : List ℕ} {i :
         budget = r .budget - 1;
         enough = omega arith;
         inside = byte .1;
-        putting = putting-more (encode c) _ room (rw split at (r .putting)) p;
+        putting = putting-more (inText d (encode c)) _ room (rw split at (r .putting)) p;
       }

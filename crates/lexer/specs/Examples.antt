@@ -6,6 +6,8 @@ use Prim.Native.Nat.{ℕ, zero, suc}
 use Prim.Native.Char.{code}
 use lib.ListN.{drop}
 use Rattle.text.specs.Text.{bytes}
+use Rattle.text.specs.declared.Dialect.{Dialect}
+use Rattle.text.specs.Xml.{xmlEscape, xmlText, inText}
 use Rattle.text.specs.Examples.{text-opens}
 use Rattle.attribute.specs.declared.Variant.{Variant}
 use Rattle.token.specs.declared.Token.{Token}
@@ -56,3 +58,8 @@ ends = refl
 text-of-letters : letters (bytes "a \\beta\n字1c") ≡ code "a" ∷ code "β" ∷ code "字" ∷ []
 unfolding text-opens token-opens lexer-opens
 text-of-letters = refl
+
+-- .. and the strict dialect escapes them
+strict-letters : inText Dialect.Strict (encodeAll (letters (bytes "a\\&b"))) ≡ bytes "a&amp;b"
+unfolding text-opens xmlEscape xmlText inText token-opens lexer-opens
+strict-letters = refl

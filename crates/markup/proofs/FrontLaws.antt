@@ -3,39 +3,39 @@
 use mathlib.Core.Path.{_≡_, refl, sym}
 use mathlib.Core.List.{List, _++_, append-assoc, append-nil}
 use Prim.Native.Nat.{ℕ}
-use Rattle.text.specs.Utf8.{encode}
 use Rattle.text.specs.Text.{bytes}
+use Rattle.text.specs.declared.Dialect.{Dialect}
 use Rattle.attribute.specs.declared.Accent.{Accent}
 use Rattle.attribute.specs.Names.{accent}
 use Rattle.ast.specs.declared.One.{One}
 use Rattle.ast.specs.declared.Two.{Two}
 use Rattle.ast.specs.declared.Three.{Three}
 use Rattle.ast.specs.Tree.{Node}
-use Rattle.markup.specs.Print.{fixedText, displayText, slash, printOne, printTwo, printThree}
-use Rattle.markup.specs.Fronts.{accentText, frontOne, backOne, frontTwo, backTwo, frontThree, backThree}
+use Rattle.markup.specs.Print.{fixedText, character, displayText, slash, printOne, printTwo, printThree}
+use Rattle.markup.specs.Fronts.{accentText, styleFront, frontOne, backOne, frontTwo, backTwo, frontThree, backThree}
 
-accented : (f m end : List ℕ) (acc : Accent) (c : ℕ)
-    → f ++ m ++ bytes "<mo accent=\"" ++ bytes (accent acc) ++ bytes "\">" ++ encode c ++ end ≡ f ++ m ++ accentText acc c end
+accented : (d : Dialect) (f m end : List ℕ) (acc : Accent) (c : ℕ)
+    → f ++ m ++ bytes "<mo accent=\"" ++ bytes (accent acc) ++ bytes "\">" ++ character d c ++ end ≡ f ++ m ++ accentText d acc c end
 unfolding accentText
-accented f m end acc c = simp (accentText, append-assoc)
+accented d f m end acc c = simp (accentText, append-assoc)
 
 -- a slashed node is what `slash` makes of its part
-abbrev pub between : One → Node → List ℕ → List ℕ
-between (One.OverOp c acc) a m = m
-between (One.UnderOp c acc) a m = m
-between One.Sqrt a m = m
-between (One.Fenced t u) a m = m
-between One.Slashed a m = slash a m
-between (One.Style d) a m = m
+abbrev pub between : Dialect → One → Node → List ℕ → List ℕ
+between d (One.OverOp c acc) a m = m
+between d (One.UnderOp c acc) a m = m
+between d One.Sqrt a m = m
+between d (One.Fenced t u) a m = m
+between d One.Slashed a m = slash d a m
+between d (One.Style st) a m = m
 
-pub one-pieces : (k : One) (a : Node) (m : List ℕ) → printOne k a m ≡ frontOne k ++ between k a m ++ backOne k
-unfolding printOne frontOne backOne bytes
-one-pieces (One.OverOp c acc) a m = accented (bytes "<mover>") m (bytes "</mo></mover>") acc c
-one-pieces (One.UnderOp c acc) a m = accented (bytes "<munder>") m (bytes "</mo></munder>") acc c
-one-pieces One.Sqrt a m = refl
-one-pieces (One.Fenced t u) a m = simp append-assoc
-one-pieces One.Slashed a m = sym (append-nil (slash a m))
-one-pieces (One.Style d) a m = refl
+pub one-pieces : (d : Dialect) (k : One) (a : Node) (m : List ℕ) → printOne d k a m ≡ frontOne d k ++ between d k a m ++ backOne d k
+unfolding printOne frontOne backOne styleFront bytes
+one-pieces d (One.OverOp c acc) a m = accented d (bytes "<mover>") m (bytes "</mo></mover>") acc c
+one-pieces d (One.UnderOp c acc) a m = accented d (bytes "<munder>") m (bytes "</mo></munder>") acc c
+one-pieces d One.Sqrt a m = refl
+one-pieces d (One.Fenced t u) a m = simp append-assoc
+one-pieces d One.Slashed a m = sym (append-nil (slash d a m))
+one-pieces d (One.Style st) a m = refl
 
 pub two-pieces : (k : Two) (m n : List ℕ) → printTwo k m n ≡ frontTwo k ++ m ++ n ++ backTwo k
 unfolding printTwo frontTwo backTwo

@@ -5,6 +5,7 @@ use mathlib.Core.List.{List, [], _∷_}
 use Prim.Native.Nat.{ℕ}
 use types.Run.{OneOf, miss}
 use denote.Enum.Declared.{tagOf}
+use Rattle.text.specs.declared.Dialect.{Dialect}
 use Rattle.ast.specs.declared.Leaf.{Leaf}
 use Rattle.ast.specs.Tree.{leaf}
 use Rattle.markup.specs.declared.Place.{Place}
@@ -12,11 +13,11 @@ use Rattle.markup.specs.Print.{slashLeaf, slash, cellLeaf, cell, atPlace
 use Rattle.markup.proofs.Place.{the-type}
 
 -- a leaf that neither bears a slash nor breaks a matrix prints the same anywhere
-pub anywhere : (place : Place) {l l′ : Leaf} (m : List ℕ) → l ≡ l′ → slashLeaf l′ m ≡ m → cellLeaf l′ m ≡ m → atPlace place (leaf l) m ≡ m
+pub anywhere : (d : Dialect) (place : Place) {l l′ : Leaf} (m : List ℕ) → l ≡ l′ → slashLeaf d l′ m ≡ m → cellLeaf l′ m ≡ m → atPlace d place (leaf l) m ≡ m
 unfolding atPlace slash cell
-anywhere Place.Plain m e s c = refl
-anywhere Place.Slashed m e s c = ap (λ k. slashLeaf k m) e ∙ s
-anywhere Place.Cell m e s c = ap (λ k. cellLeaf k m) e ∙ c
+anywhere d Place.Plain m e s c = refl
+anywhere d Place.Slashed m e s c = ap (λ k. slashLeaf d k m) e ∙ s
+anywhere d Place.Cell m e s c = ap (λ k. cellLeaf k m) e ∙ c
 
 -- the places, among the enum's variants, that are not under a slash, and that are not in a matrix
 abbrev pub unslashed : List ℕ
@@ -26,15 +27,15 @@ abbrev pub uncelled : List ℕ
 uncelled = 0 ∷ 1 ∷ []
 
 -- a leaf that breaks no matrix, where it has no slash to bear
-pub no-slash : (place : Place) (l : Leaf) (m : List ℕ) → OneOf unslashed (tagOf the-type place) → cellLeaf l m ≡ m → atPlace place (leaf l) m ≡ m
+pub no-slash : (d : Dialect) (place : Place) (l : Leaf) (m : List ℕ) → OneOf unslashed (tagOf the-type place) → cellLeaf l m ≡ m → atPlace d place (leaf l) m ≡ m
 unfolding atPlace slash cell
-no-slash Place.Plain l m h c = refl
-no-slash Place.Slashed l m h c = absurd (miss unslashed 1 tt h)
-no-slash Place.Cell l m h c = c
+no-slash d Place.Plain l m h c = refl
+no-slash d Place.Slashed l m h c = absurd (miss unslashed 1 tt h)
+no-slash d Place.Cell l m h c = c
 
 -- a leaf that bears no slash, where it has no matrix to break
-pub no-cell : (place : Place) (l : Leaf) (m : List ℕ) → OneOf uncelled (tagOf the-type place) → slashLeaf l m ≡ m → atPlace place (leaf l) m ≡ m
+pub no-cell : (d : Dialect) (place : Place) (l : Leaf) (m : List ℕ) → OneOf uncelled (tagOf the-type place) → slashLeaf d l m ≡ m → atPlace d place (leaf l) m ≡ m
 unfolding atPlace slash cell
-no-cell Place.Plain l m h s = refl
-no-cell Place.Slashed l m h s = s
-no-cell Place.Cell l m h s = absurd (miss uncelled 2 tt h)
+no-cell d Place.Plain l m h s = refl
+no-cell d Place.Slashed l m h s = s
+no-cell d Place.Cell l m h s = absurd (miss uncelled 2 tt h)

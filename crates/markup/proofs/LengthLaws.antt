@@ -8,8 +8,9 @@ use native.Mathlib.Omega.{arith}
 use lib.Dec.{eqb, ltb}
 use borrow.Author.Tests.{le-ltb}
 use lib.ListN.{length, getD, length-append, length-take, length-drop, List·getD-eq-default}
-use Rattle.text.specs.Utf8.{encode}
 use Rattle.text.specs.Text.{bytes, part}
+use Rattle.text.specs.declared.Dialect.{Dialect}
+use Rattle.text.specs.Xml.{inText}
 use Rattle.text.specs.Put.{Room, Puts}
 use Rattle.text.specs.Examples.{text-opens}
 use Rattle.text.proofs.Cases.{never, by-order}
@@ -21,7 +22,7 @@ use Rattle.attribute.specs.declared.ColumnAlign.{ColumnAlign}
 use Rattle.attribute.specs.declared.DisplayStyle.{DisplayStyle}
 use Rattle.attribute.specs.Names.{isItalic, accent, lineThickness, columnAlign}
 use Rattle.token.specs.declared.Undefined.{Undefined}
-use Rattle.token.specs.Texts.{textOf, widthOf}
+use Rattle.token.specs.Texts.{widthOf}
 use Rattle.token.specs.Debug.{escape, debug}
 use Rattle.ast.specs.declared.Stretched.{Stretched}
 use Rattle.ast.specs.declared.Leaf.{Leaf}
@@ -32,153 +33,155 @@ use Rattle.ast.specs.declared.Fields.{Fields}
 use Rattle.ast.specs.Shape.{shapes, matrixShape, shapeOf}
 use Rattle.ast.specs.Tree.{leaf}
 use Rattle.markup.specs.declared.Place.{Place}
-use Rattle.markup.specs.Print.{fixedText, widthText, letterText, stretchedText, variantText, letterMarkup, operatorMarkup, parseError, sizedMarkup, undefinedMarkup, printLeaf, slashLeaf, slash, displayText, atPlace}
-use Rattle.markup.specs.Fronts.{accentText, frontOne, backOne, frontTwo, backTwo}
+use Rattle.markup.specs.Print.{fixedText, widthText, letterText, character, operatorText, stretchedText, variantText, letterMarkup, operatorMarkup, parseError, sizedEnd, sizedMarkup, undefinedMarkup, printLeaf, slashLeaf, slash, alignText, displayText, atPlace}
+use Rattle.markup.specs.Fronts.{accentText, styleFront, frontOne, backOne, frontTwo, backTwo}
 use Rattle.markup.specs.Own.{under, ownText, ownErrors}
-use Rattle.markup.proofs.PrintLaws.{italic-letter, other-letter}
-use Rattle.markup.proofs.ShortLaws.{fixed-short, width-short, escape-short, debug-short, letters-short}
-
-pub text-small : (t : ℕ) → length (bytes (textOf t)) ≤ 7
-unfolding fixedText
-text-small t = fixed-short t
+use Rattle.markup.proofs.PrintLaws.{italic-letter, other-letter, error-ampersand, error-new-line, undefined-pieces}
+use Rattle.markup.proofs.ShortLaws.{width-short, debug-short, letters-short}
 
 pub width-small : (w : ℕ) → length (bytes (widthOf w)) ≤ 11
 unfolding widthText
 width-small w = width-short w
 
+-- a matrix that is centred has no attribute in either dialect
+pub center-long : (d : Dialect) → 0 ≡ length (alignText d ColumnAlign.Center)
+unfolding text-opens columnAlign alignText
+center-long Dialect.Old = refl
+center-long Dialect.Strict = refl
+
 -- ---- a letter and an operator, plain and under a slash
-pub letter-under : (c : ℕ) (v : Variant) → length (atPlace Place.Slashed (leaf (Leaf.Letter c v)) (letterMarkup c v)) ≡ 17 + length (variantText v) + length (encode c)
+pub letter-under : (d : Dialect) (c : ℕ) (v : Variant) → length (atPlace d Place.Slashed (leaf (Leaf.Letter c v)) (letterMarkup d c v)) ≡ 17 + length (variantText v) + length (character d c)
 unfolding text-opens atPlace slash slashLeaf
-letter-under c v = simp length-append (omega arith)
+letter-under d c v = simp length-append (omega arith)
 
-pub letter-italic : (c : ℕ) (v : Variant) → isItalic v ≡ true → length (atPlace Place.Plain (leaf (Leaf.Letter c v)) (letterMarkup c v)) ≡ 9 + length (encode c)
+pub letter-italic : (d : Dialect) (c : ℕ) (v : Variant) → isItalic v ≡ true → length (atPlace d Place.Plain (leaf (Leaf.Letter c v)) (letterMarkup d c v)) ≡ 9 + length (character d c)
 unfolding text-opens atPlace
-letter-italic c v e = rw (italic-letter c v e) (simp length-append (omega arith))
+letter-italic d c v e = rw (italic-letter d c v e) (simp length-append (omega arith))
 
-pub letter-other : (c : ℕ) (v : Variant) → isItalic v ≡ false → length (atPlace Place.Plain (leaf (Leaf.Letter c v)) (letterMarkup c v)) ≡ 9 + length (variantText v) + length (encode c)
+pub letter-other : (d : Dialect) (c : ℕ) (v : Variant) → isItalic v ≡ false → length (atPlace d Place.Plain (leaf (Leaf.Letter c v)) (letterMarkup d c v)) ≡ 9 + length (variantText v) + length (character d c)
 unfolding text-opens atPlace
-letter-other c v e = rw (other-letter c v e) (simp length-append (omega arith))
+letter-other d c v e = rw (other-letter d c v e) (simp length-append (omega arith))
 
-pub operator-under : (c : ℕ) → length (atPlace Place.Slashed (leaf (Leaf.Operator c)) (operatorMarkup c)) ≡ 17 + length (encode c)
+pub operator-under : (d : Dialect) (c : ℕ) → length (atPlace d Place.Slashed (leaf (Leaf.Operator c)) (operatorMarkup d c)) ≡ 17 + length (operatorText d c)
 unfolding text-opens atPlace slash slashLeaf
-operator-under c = simp length-append (omega arith)
+operator-under d c = simp length-append (omega arith)
 
-pub operator-italic : (c : ℕ) → c ≡ 8706 → length (atPlace Place.Plain (leaf (Leaf.Operator c)) (operatorMarkup c)) ≡ 33
+pub operator-italic : (d : Dialect) (c : ℕ) → c ≡ 8706 → length (atPlace d Place.Plain (leaf (Leaf.Operator c)) (operatorMarkup d c)) ≡ 33
 unfolding text-opens atPlace operatorMarkup
-operator-italic c e = rw e refl
+operator-italic d c e = rw e refl
 
-pub operator-other : (c : ℕ) → eqb c 8706 ≡ false → length (atPlace Place.Plain (leaf (Leaf.Operator c)) (operatorMarkup c)) ≡ 9 + length (encode c)
+pub operator-other : (d : Dialect) (c : ℕ) → eqb c 8706 ≡ false → length (atPlace d Place.Plain (leaf (Leaf.Operator c)) (operatorMarkup d c)) ≡ 9 + length (operatorText d c)
 unfolding text-opens atPlace operatorMarkup
-operator-other c e = rw (operatorMarkup, e) (simp length-append (omega arith))
+operator-other d c e = rw (operatorMarkup, e) (simp length-append (omega arith))
 
 -- ---- letters that are read again, and an error text: counted by putting them nowhere
-pub letters-room : {o : List ℕ} (s : List ℕ) (a e : ℕ) → length s ≤ 4096 → Room false o 0 (length (letterText s a e))
-letters-room s a e short = record { small = omega (arith, letters-short s a e); inside = λ w. never cc }
+pub letters-room : (d : Dialect) {o : List ℕ} (s : List ℕ) (a e : ℕ) → length s ≤ 4096 → Room false o 0 (length (letterText d s a e))
+letters-room d s a e short = record { small = omega (arith, letters-short d s a e); inside = λ w. never cc }
 
-pub debug-room : {o : List ℕ} (s : List ℕ) (u : Undefined) → length s ≤ 4096 → Room false o 43 (length (escape (debug s u)))
-debug-room s u short = record { small = omega (arith, escape-short (debug s u), debug-short s u); inside = λ w. never cc }
+pub debug-room : (d : Dialect) {o : List ℕ} (s : List ℕ) (u : Undefined) → length s ≤ 4096 → Room false o 43 (length (inText d (escape (debug s u))))
+debug-room d s u short = record { small = omega (arith, debug-short d s u); inside = λ w. never cc }
 
-pub undefined-long : (s : List ℕ) (u : Undefined) → length (undefinedMarkup s u) ≡ 43 + length (escape (debug s u))
-unfolding text-opens undefinedMarkup parseError
-undefined-long s u = simp length-append (omega arith)
+pub undefined-long : (d : Dialect) (s : List ℕ) (u : Undefined) → length (undefinedMarkup d s u) ≡ 43 + length (inText d (escape (debug s u)))
+unfolding text-opens undefinedMarkup
+undefined-long d s u = rw (undefined-pieces d (escape (debug s u))) (simp length-append (omega arith))
 
 -- ---- any kind, by its tag
-pub tagged : (b : Bool) (s : List ℕ) (f : Fields) (tag : ℕ) {n : ℕ} → f .tag ≡ tag → n ≡ length (ownText (under b) s (getD shapes tag matrixShape (f .attr) (f .x) (f .y)))
-    → n ≡ length (ownText (under b) s (shapeOf f))
+pub tagged : (d : Dialect) (b : Bool) (s : List ℕ) (f : Fields) (tag : ℕ) {n : ℕ} → f .tag ≡ tag → n ≡ length (ownText d (under b) s (getD shapes tag matrixShape (f .attr) (f .x) (f .y)))
+    → n ≡ length (ownText d (under b) s (shapeOf f))
 unfolding shapeOf
-tagged b s f tag e h = rw e h
+tagged d b s f tag e h = rw e h
 
-pub tagged-last : (b : Bool) (s : List ℕ) (f : Fields) {n : ℕ} → 36 ≤ f .tag → n ≡ length (ownText (under b) s (matrixShape (f .attr) (f .x) (f .y)))
-    → n ≡ length (ownText (under b) s (shapeOf f))
+pub tagged-last : (d : Dialect) (b : Bool) (s : List ℕ) (f : Fields) {n : ℕ} → 36 ≤ f .tag → n ≡ length (ownText d (under b) s (matrixShape (f .attr) (f .x) (f .y)))
+    → n ≡ length (ownText d (under b) s (shapeOf f))
 unfolding shapeOf shapes
-tagged-last b s f {n} le h = h ∙ sym (ap (λ g. length (ownText (under b) s (g (f .attr) (f .x) (f .y)))) (List·getD-eq-default shapes matrixShape le))
+tagged-last d b s f {n} le h = h ∙ sym (ap (λ g. length (ownText d (under b) s (g (f .attr) (f .x) (f .y)))) (List·getD-eq-default shapes matrixShape le))
 
 -- a leaf that is the same under a slash
-same-under : (b : Bool) (s : List ℕ) (l : Leaf) → slashLeaf l (printLeaf s l) ≡ printLeaf s l → length (ownText (under b) s (Shape.Leaf l)) ≡ length (printLeaf s l)
+same-under : (d : Dialect) (b : Bool) (s : List ℕ) (l : Leaf) → slashLeaf d l (printLeaf d s l) ≡ printLeaf d s l → length (ownText d (under b) s (Shape.Leaf l)) ≡ length (printLeaf d s l)
 unfolding ownText atPlace slash
-same-under true s l e = ap (λ m. length m) e
-same-under false s l e = refl
+same-under d true s l e = ap (λ m. length m) e
+same-under d false s l e = refl
 
-pub own-letter : (b : Bool) (s : List ℕ) (c : ℕ) (v : Variant) → length (ownText (under b) s (Shape.Leaf (Leaf.Letter c v))) ≡ length (atPlace (under b) (leaf (Leaf.Letter c v)) (letterMarkup c v))
+pub own-letter : (d : Dialect) (b : Bool) (s : List ℕ) (c : ℕ) (v : Variant) → length (ownText d (under b) s (Shape.Leaf (Leaf.Letter c v))) ≡ length (atPlace d (under b) (leaf (Leaf.Letter c v)) (letterMarkup d c v))
 unfolding ownText printLeaf
-own-letter b s c v = refl
+own-letter d b s c v = refl
 
-pub own-operator : (b : Bool) (s : List ℕ) (c : ℕ) → length (ownText (under b) s (Shape.Leaf (Leaf.Operator c))) ≡ length (atPlace (under b) (leaf (Leaf.Operator c)) (operatorMarkup c))
+pub own-operator : (d : Dialect) (b : Bool) (s : List ℕ) (c : ℕ) → length (ownText d (under b) s (Shape.Leaf (Leaf.Operator c))) ≡ length (atPlace d (under b) (leaf (Leaf.Operator c)) (operatorMarkup d c))
 unfolding ownText printLeaf
-own-operator b s c = refl
+own-operator d b s c = refl
 
-pub own-number : (b : Bool) (s : List ℕ) (a e : ℕ) → a ≤ e → e ≤ length s → length (ownText (under b) s (Shape.Leaf (Leaf.Number a e))) ≡ 9 + (e - a)
+pub own-number : (d : Dialect) (b : Bool) (s : List ℕ) (a e : ℕ) → a ≤ e → e ≤ length s → length (ownText d (under b) s (Shape.Leaf (Leaf.Number a e))) ≡ 9 + (e - a)
 unfolding text-opens printLeaf slashLeaf
-own-number b s a e le in-body = same-under b s (Leaf.Number a e) refl ∙ simp (length-append, length-take, length-drop) (omega arith)
+own-number d b s a e le in-body = same-under d b s (Leaf.Number a e) refl ∙ simp (length-append, length-take, length-drop) (omega arith)
 
-pub own-function : (b : Bool) (s : List ℕ) (t : ℕ) → length (ownText (under b) s (Shape.Leaf (Leaf.Function t))) ≡ 9 + length (bytes (textOf t))
-unfolding text-opens printLeaf slashLeaf fixedText
-own-function b s t = same-under b s (Leaf.Function t) refl ∙ simp length-append (omega arith)
-
-pub own-name : (b : Bool) (s : List ℕ) (a e : ℕ) → length (ownText (under b) s (Shape.Leaf (Leaf.FunctionName a e))) ≡ 9 + length (letterText s a e)
+pub own-function : (d : Dialect) (b : Bool) (s : List ℕ) (t : ℕ) → length (ownText d (under b) s (Shape.Leaf (Leaf.Function t))) ≡ 9 + length (fixedText d t)
 unfolding text-opens printLeaf slashLeaf
-own-name b s a e = same-under b s (Leaf.FunctionName a e) refl ∙ simp length-append (omega arith)
+own-function d b s t = same-under d b s (Leaf.Function t) refl ∙ simp length-append (omega arith)
 
-pub own-space : (b : Bool) (s : List ℕ) (w : ℕ) → length (ownText (under b) s (Shape.Leaf (Leaf.Space w))) ≡ 20 + length (bytes (widthOf w))
+pub own-name : (d : Dialect) (b : Bool) (s : List ℕ) (a e : ℕ) → length (ownText d (under b) s (Shape.Leaf (Leaf.FunctionName a e))) ≡ 9 + length (letterText d s a e)
+unfolding text-opens printLeaf slashLeaf
+own-name d b s a e = same-under d b s (Leaf.FunctionName a e) refl ∙ simp length-append (omega arith)
+
+pub own-space : (d : Dialect) (b : Bool) (s : List ℕ) (w : ℕ) → length (ownText d (under b) s (Shape.Leaf (Leaf.Space w))) ≡ 20 + length (bytes (widthOf w))
 unfolding text-opens printLeaf slashLeaf widthText
-own-space b s w = same-under b s (Leaf.Space w) refl ∙ simp length-append (omega arith)
+own-space d b s w = same-under d b s (Leaf.Space w) refl ∙ simp length-append (omega arith)
 
-pub own-stretched : (b : Bool) (s : List ℕ) (c : ℕ) → length (ownText (under b) s (Shape.Leaf (Leaf.StrechedOp (Stretched.Character c)))) ≡ 25 + length (encode c)
+pub own-stretched : (d : Dialect) (b : Bool) (s : List ℕ) (c : ℕ) → length (ownText d (under b) s (Shape.Leaf (Leaf.StrechedOp (Stretched.Character c)))) ≡ 25 + length (operatorText d c)
 unfolding text-opens printLeaf slashLeaf stretchedText
-own-stretched b s c = same-under b s (Leaf.StrechedOp (Stretched.Character c)) refl ∙ simp length-append (omega arith)
+own-stretched d b s c = same-under d b s (Leaf.StrechedOp (Stretched.Character c)) refl ∙ simp length-append (omega arith)
 
-pub own-stretched-text : (b : Bool) (s : List ℕ) (t : ℕ) → length (ownText (under b) s (Shape.Leaf (Leaf.StrechedOp (Stretched.Fixed t)))) ≡ 25 + length (bytes (textOf t))
-unfolding text-opens printLeaf slashLeaf stretchedText fixedText
-own-stretched-text b s t = same-under b s (Leaf.StrechedOp (Stretched.Fixed t)) refl ∙ simp length-append (omega arith)
+pub own-stretched-text : (d : Dialect) (b : Bool) (s : List ℕ) (t : ℕ) → length (ownText d (under b) s (Shape.Leaf (Leaf.StrechedOp (Stretched.Fixed t)))) ≡ 25 + length (fixedText d t)
+unfolding text-opens printLeaf slashLeaf stretchedText
+own-stretched-text d b s t = same-under d b s (Leaf.StrechedOp (Stretched.Fixed t)) refl ∙ simp length-append (omega arith)
 
-pub own-other : (b : Bool) (s : List ℕ) (t : ℕ) → length (ownText (under b) s (Shape.Leaf (Leaf.OtherOperator t))) ≡ 9 + length (bytes (textOf t))
-unfolding text-opens printLeaf slashLeaf fixedText
-own-other b s t = same-under b s (Leaf.OtherOperator t) refl ∙ simp length-append (omega arith)
-
-pub own-sized : (b : Bool) (s : List ℕ) (z t : ℕ) → length (ownText (under b) s (Shape.Leaf (Leaf.SizedParen z t))) ≡ 45 + length (bytes (textOf z)) + length (bytes (textOf z)) + length (bytes (textOf t))
-unfolding text-opens printLeaf slashLeaf sizedMarkup fixedText
-own-sized b s z t = same-under b s (Leaf.SizedParen z t) refl ∙ simp length-append (omega arith)
-
-pub own-text : (b : Bool) (s : List ℕ) (a e : ℕ) → length (ownText (under b) s (Shape.Leaf (Leaf.Text a e))) ≡ 15 + length (letterText s a e)
+pub own-other : (d : Dialect) (b : Bool) (s : List ℕ) (t : ℕ) → length (ownText d (under b) s (Shape.Leaf (Leaf.OtherOperator t))) ≡ 9 + length (fixedText d t)
 unfolding text-opens printLeaf slashLeaf
-own-text b s a e = same-under b s (Leaf.Text a e) refl ∙ simp length-append (omega arith)
+own-other d b s t = same-under d b s (Leaf.OtherOperator t) refl ∙ simp length-append (omega arith)
 
-pub own-ampersand : (b : Bool) (s : List ℕ) → length (ownText (under b) s (Shape.Leaf Leaf.Ampersand)) ≡ 39
+pub own-sized : (d : Dialect) (b : Bool) (s : List ℕ) (z t : ℕ) → length (ownText d (under b) s (Shape.Leaf (Leaf.SizedParen z t))) ≡ 32 + length (fixedText d z) + length (fixedText d z) + length (fixedText d t) + length (sizedEnd d)
+unfolding text-opens printLeaf slashLeaf sizedMarkup
+own-sized d b s z t = same-under d b s (Leaf.SizedParen z t) refl ∙ simp length-append (omega arith)
+
+pub own-text : (d : Dialect) (b : Bool) (s : List ℕ) (a e : ℕ) → length (ownText d (under b) s (Shape.Leaf (Leaf.Text a e))) ≡ 15 + length (letterText d s a e)
+unfolding text-opens printLeaf slashLeaf
+own-text d b s a e = same-under d b s (Leaf.Text a e) refl ∙ simp length-append (omega arith)
+
+pub own-ampersand : (d : Dialect) (b : Bool) (s : List ℕ) → length (ownText d (under b) s (Shape.Leaf Leaf.Ampersand)) ≡ 39
 unfolding text-opens printLeaf slashLeaf parseError
-own-ampersand b s = same-under b s Leaf.Ampersand refl
+own-ampersand d b s = same-under d b s Leaf.Ampersand refl ∙ ap (λ m. length m) (error-ampersand d)
 
-pub own-new-line : (b : Bool) (s : List ℕ) → length (ownText (under b) s (Shape.Leaf Leaf.NewLine)) ≡ 37
+pub own-new-line : (d : Dialect) (b : Bool) (s : List ℕ) → length (ownText d (under b) s (Shape.Leaf Leaf.NewLine)) ≡ 37
 unfolding text-opens printLeaf slashLeaf parseError
-own-new-line b s = same-under b s Leaf.NewLine refl
+own-new-line d b s = same-under d b s Leaf.NewLine refl ∙ ap (λ m. length m) (error-new-line d)
 
-pub own-undefined : (b : Bool) (s : List ℕ) (u : Undefined) → length (ownText (under b) s (Shape.Leaf (Leaf.Undefined u))) ≡ length (undefinedMarkup s u)
+pub own-undefined : (d : Dialect) (b : Bool) (s : List ℕ) (u : Undefined) → length (ownText d (under b) s (Shape.Leaf (Leaf.Undefined u))) ≡ length (undefinedMarkup d s u)
 unfolding printLeaf slashLeaf
-own-undefined b s u = same-under b s (Leaf.Undefined u) refl
+own-undefined d b s u = same-under d b s (Leaf.Undefined u) refl
 
 -- ---- around parts
-pub own-over : (b : Bool) (s : List ℕ) (c : ℕ) (acc : Accent) → length (ownText (under b) s (Shape.One (One.OverOp c acc))) ≡ 34 + length (bytes (accent acc)) + length (encode c)
+pub own-over : (d : Dialect) (b : Bool) (s : List ℕ) (c : ℕ) (acc : Accent) → length (ownText d (under b) s (Shape.One (One.OverOp c acc))) ≡ 34 + length (bytes (accent acc)) + length (character d c)
 unfolding text-opens ownText frontOne backOne accentText
-own-over b s c acc = simp length-append (omega arith)
+own-over d b s c acc = simp length-append (omega arith)
 
-pub own-under : (b : Bool) (s : List ℕ) (c : ℕ) (acc : Accent) → length (ownText (under b) s (Shape.One (One.UnderOp c acc))) ≡ 36 + length (bytes (accent acc)) + length (encode c)
+pub own-under : (d : Dialect) (b : Bool) (s : List ℕ) (c : ℕ) (acc : Accent) → length (ownText d (under b) s (Shape.One (One.UnderOp c acc))) ≡ 36 + length (bytes (accent acc)) + length (character d c)
 unfolding text-opens ownText frontOne backOne accentText
-own-under b s c acc = simp length-append (omega arith)
+own-under d b s c acc = simp length-append (omega arith)
 
-pub own-fenced : (b : Bool) (s : List ℕ) (t u : ℕ) → length (ownText (under b) s (Shape.One (One.Fenced t u))) ≡ 92 + length (bytes (textOf t)) + length (bytes (textOf u))
-unfolding text-opens ownText frontOne backOne fixedText
-own-fenced b s t u = simp length-append (omega arith)
-
-pub own-style : (b : Bool) (s : List ℕ) (d : DisplayStyle) → length (ownText (under b) s (Shape.One (One.Style d))) ≡ 33 + length (displayText d)
+pub own-fenced : (d : Dialect) (b : Bool) (s : List ℕ) (t u : ℕ) → length (ownText d (under b) s (Shape.One (One.Fenced t u))) ≡ 92 + length (fixedText d t) + length (fixedText d u)
 unfolding text-opens ownText frontOne backOne
-own-style b s d = simp length-append (omega arith)
+own-fenced d b s t u = simp length-append (omega arith)
 
-pub own-frac : (b : Bool) (s : List ℕ) (l : LineThickness) → length (ownText (under b) s (Shape.Two (Two.Frac l))) ≡ 15 + length (bytes (lineThickness l))
+pub own-style : (d : Dialect) (b : Bool) (s : List ℕ) (st : DisplayStyle) → length (ownText d (under b) s (Shape.One (One.Style st))) ≡ 33 + length (displayText st)
+unfolding text-opens ownText frontOne backOne styleFront
+own-style d b s st = simp length-append (omega arith)
+
+pub own-frac : (d : Dialect) (b : Bool) (s : List ℕ) (l : LineThickness) → length (ownText d (under b) s (Shape.Two (Two.Frac l))) ≡ 15 + length (bytes (lineThickness l))
 unfolding text-opens ownText frontTwo backTwo
-own-frac b s l = simp length-append (omega arith)
+own-frac d b s l = simp length-append (omega arith)
 
-pub own-matrix : (b : Bool) (s : List ℕ) (align : ColumnAlign) (n : ℕ) → length (ownText (under b) s (Shape.Matrix align n)) ≡ 39 + length (bytes (columnAlign align))
+pub own-matrix : (d : Dialect) (b : Bool) (s : List ℕ) (align : ColumnAlign) (n : ℕ) → length (ownText d (under b) s (Shape.Matrix align n)) ≡ 39 + length (alignText d align)
 unfolding text-opens ownText
-own-matrix b s align n = simp length-append (omega arith)
+own-matrix d b s align n = simp length-append (omega arith)
 
 -- ---- error texts: the tags from 11 to 19
 error-tag : ℕ → ℕ

@@ -2,21 +2,25 @@
 -- Assumes nothing.
 use mathlib.Core.Path.{_≡_, refl}
 use mathlib.Core.Bool.{true}
-use mathlib.Core.List.{List}
+use mathlib.Core.List.{List, _++_}
 use Prim.Native.Nat.{ℕ}
 use lib.Dec.{eqb}
-use Rattle.text.specs.Text.{part}
+use Rattle.text.specs.Utf8.{encode}
+use Rattle.text.specs.Text.{bytes, part}
+use Rattle.text.specs.declared.Dialect.{Dialect}
 use Rattle.text.specs.Plain.{noDollar, plain}
 use Rattle.text.proofs.Cases.{by-test}
-use Rattle.text.proofs.PlainLaws.{plain-part, plain-encode, plain-bytes, joined}
+use Rattle.text.proofs.PlainLaws.{plain-part, plain-encode, plain-bytes, plain-text, joined}
 use Rattle.attribute.specs.declared.Variant.{Variant}
+use Rattle.attribute.specs.declared.ColumnAlign.{ColumnAlign}
 use Rattle.attribute.specs.declared.DisplayStyle.{DisplayStyle}
 use Rattle.attribute.specs.declared.DisplayStyle.the-variants.{Block, Inline}
 use Rattle.attribute.specs.Names.{isItalic}
 use Rattle.attribute.proofs.PlainLaws.{variant-plain, accent-plain, line-plain, align-plain}
 use Rattle.token.specs.declared.Undefined.{Undefined}
-use Rattle.token.specs.Texts.{textOf}
-use Rattle.token.specs.Debug.{debug}
+use Rattle.token.specs.Texts.{textOf, textIn}
+use Rattle.token.specs.Command.{operatorIn}
+use Rattle.token.specs.Debug.{escape, debug}
 use Rattle.token.proofs.PlainLaws.{text-plain, width-plain, escape-plain, debug-plain}
 use Rattle.lexer.proofs.PlainLaws.{letters-plain}
 use Rattle.ast.specs.declared.Stretched.{Stretched}
@@ -26,58 +30,84 @@ use Rattle.ast.specs.declared.Two.{Two}
 use Rattle.ast.specs.declared.Three.{Three}
 use Rattle.ast.specs.Tree.{Node, leaf, one, two, three, row, matrix, Nodes, empty, _then_}
 use Rattle.ast.proofs.PlainLaws.{stretchedPlain, leafPlain, onePlain, TreePlain, AllPlain}
-use Rattle.markup.specs.Print.{fixedText, widthText, letterText, stretchedText, variantText, letterMarkup, operatorMarkup, parseError, sizedMarkup, undefinedMarkup, printLeaf, slashLeaf, slash, displayText, printOne, printTwo, printThree, cellLeaf, cell, print, printAll, printCells}
+use Rattle.markup.specs.Print.{fixedText, widthText, letterText, character, operatorText, stretchedText, variantText, letterMarkup, operatorMarkup, parseError, sizedEnd, sizedMarkup, undefinedMarkup, printLeaf, slashLeaf, slash, displayText, printOne, printTwo, printThree, cellLeaf, cell, alignText, print, printAll, printCells}
 use Rattle.markup.proofs.PrintLaws.{italic-letter, other-letter}
 
 -- ---- the texts of numbers and attributes
 
-fixed-plain : (t : ℕ) → plain (fixedText t) ≡ true
+fixed-plain : (d : Dialect) (t : ℕ) → plain (fixedText d t) ≡ true
 unfolding fixedText
-fixed-plain t = plain-bytes (textOf t) (text-plain t)
+fixed-plain d t = plain-bytes (textOf (textIn d t)) (text-plain (textIn d t))
 
 attribute-plain : (v : Variant) → plain (variantText v) ≡ true
 unfolding variantText
 attribute-plain v = simp (joined, variant-plain v)
 
-style-plain : (d : DisplayStyle) → plain (displayText d) ≡ true
+style-plain : (st : DisplayStyle) → plain (displayText st) ≡ true
 unfolding displayText
 style-plain Block = plain-bytes _ refl
 style-plain Inline = plain-bytes _ refl
 
+align-in-plain : (d : Dialect) (align : ColumnAlign) → plain (alignText d align) ≡ true
+unfolding alignText
+align-in-plain Dialect.Old align = plain-bytes _ (align-plain align)
+align-in-plain Dialect.Strict ColumnAlign.Center = plain-bytes _ refl
+align-in-plain Dialect.Strict ColumnAlign.Left = plain-bytes _ refl
+
+sized-end-plain : (d : Dialect) → plain (sizedEnd d) ≡ true
+unfolding sizedEnd
+sized-end-plain Dialect.Old = plain-bytes _ refl
+sized-end-plain Dialect.Strict = plain-bytes _ refl
+
+-- ---- characters
+
+character-plain : (d : Dialect) (c : ℕ) → noDollar c ≡ true → plain (character d c) ≡ true
+unfolding character
+character-plain d c h = plain-text d (encode c) (plain-encode c h)
+
+operator-in-plain : (d : Dialect) (c : ℕ) → noDollar c ≡ true → noDollar (operatorIn d c) ≡ true
+unfolding operatorIn
+operator-in-plain Dialect.Old c h = by-test (eqb c 8715) (λ e. rw (operatorIn, e)) (λ e. rw (operatorIn, e) h)
+operator-in-plain Dialect.Strict c h = h
+
+operator-text-plain : (d : Dialect) (c : ℕ) → noDollar c ≡ true → plain (operatorText d c) ≡ true
+unfolding operatorText
+operator-text-plain d c h = character-plain d (operatorIn d c) (operator-in-plain d c h)
+
 -- ---- leaves
 
-stretched-plain : (o : Stretched) → stretchedPlain o ≡ true → plain (stretchedText o) ≡ true
+stretched-plain : (d : Dialect) (o : Stretched) → stretchedPlain o ≡ true → plain (stretchedText d o) ≡ true
 unfolding stretchedText
-stretched-plain (Stretched.Character c) h = plain-encode c h
-stretched-plain (Stretched.Fixed t) h = fixed-plain t
+stretched-plain d (Stretched.Character c) h = operator-text-plain d c h
+stretched-plain d (Stretched.Fixed t) h = fixed-plain d t
 
-letter-plain : (c : ℕ) (v : Variant) → noDollar c ≡ true → plain (letterMarkup c v) ≡ true
-letter-plain c v h =
+letter-plain : (d : Dialect) (c : ℕ) (v : Variant) → noDollar c ≡ true → plain (letterMarkup d c v) ≡ true
+letter-plain d c v h =
     by-test (isItalic v)
-    (λ e. rw (italic-letter c v e) (simp (joined, plain-encode c h)))
-    (λ e. rw (other-letter c v e) (simp (joined, plain-encode c h, attribute-plain v)))
+    (λ e. rw (italic-letter d c v e) (simp (joined, character-plain d c h)))
+    (λ e. rw (other-letter d c v e) (simp (joined, character-plain d c h, attribute-plain v)))
 
-operator-plain : (c : ℕ) → noDollar c ≡ true → plain (operatorMarkup c) ≡ true
+operator-plain : (d : Dialect) (c : ℕ) → noDollar c ≡ true → plain (operatorMarkup d c) ≡ true
 unfolding operatorMarkup
-operator-plain c h =
-    by-test (eqb c 8706) (λ e. rw (operatorMarkup, e) (plain-bytes _ refl)) (λ e. rw (operatorMarkup, e) (simp (joined, plain-encode c h)))
+operator-plain d c h =
+    by-test (eqb c 8706) (λ e. rw (operatorMarkup, e) (plain-bytes _ refl)) (λ e. rw (operatorMarkup, e) (simp (joined, operator-text-plain d c h)))
 
 -- of a leaf with the plain markup m, what stands under a slash and in a matrix is plain
-slash-leaf-plain : (l : Leaf) (m : List ℕ) → leafPlain l ≡ true → plain m ≡ true → plain (slashLeaf l m) ≡ true
+slash-leaf-plain : (d : Dialect) (l : Leaf) (m : List ℕ) → leafPlain l ≡ true → plain m ≡ true → plain (slashLeaf d l m) ≡ true
 unfolding slashLeaf
-slash-leaf-plain (Leaf.Number a e) m h k = k
-slash-leaf-plain (Leaf.Letter c v) m h k = simp (joined, attribute-plain v, plain-encode c h)
-slash-leaf-plain (Leaf.Operator c) m h k = simp (joined, plain-encode c h)
-slash-leaf-plain (Leaf.Function t) m h k = k
-slash-leaf-plain (Leaf.FunctionName a e) m h k = k
-slash-leaf-plain (Leaf.Space w) m h k = k
-slash-leaf-plain (Leaf.StrechedOp o) m h k = k
-slash-leaf-plain (Leaf.OtherOperator t) m h k = k
-slash-leaf-plain (Leaf.SizedParen z t) m h k = k
-slash-leaf-plain (Leaf.Text a e) m h k = k
-slash-leaf-plain Leaf.Ampersand m h k = k
-slash-leaf-plain Leaf.NewLine m h k = k
-slash-leaf-plain (Leaf.Undefined u) m h k = k
+slash-leaf-plain d (Leaf.Number a e) m h k = k
+slash-leaf-plain d (Leaf.Letter c v) m h k = simp (joined, attribute-plain v, character-plain d c h)
+slash-leaf-plain d (Leaf.Operator c) m h k = simp (joined, operator-text-plain d c h)
+slash-leaf-plain d (Leaf.Function t) m h k = k
+slash-leaf-plain d (Leaf.FunctionName a e) m h k = k
+slash-leaf-plain d (Leaf.Space w) m h k = k
+slash-leaf-plain d (Leaf.StrechedOp o) m h k = k
+slash-leaf-plain d (Leaf.OtherOperator t) m h k = k
+slash-leaf-plain d (Leaf.SizedParen z t) m h k = k
+slash-leaf-plain d (Leaf.Text a e) m h k = k
+slash-leaf-plain d Leaf.Ampersand m h k = k
+slash-leaf-plain d Leaf.NewLine m h k = k
+slash-leaf-plain d (Leaf.Undefined u) m h k = k
 
 cell-leaf-plain : (l : Leaf) (m : List ℕ) → plain m ≡ true → plain (cellLeaf l m) ≡ true
 unfolding cellLeaf
@@ -97,14 +127,14 @@ cell-leaf-plain (Leaf.Undefined u) m k = k
 
 -- ---- nodes over the markup of their parts
 
-slash-plain : (t : Node) (m : List ℕ) → TreePlain t → plain m ≡ true → plain (slash t m) ≡ true
+slash-plain : (d : Dialect) (t : Node) (m : List ℕ) → TreePlain t → plain m ≡ true → plain (slash d t m) ≡ true
 unfolding slash
-slash-plain (leaf l) m h k = slash-leaf-plain l m h k
-slash-plain (one x a) m h k = k
-slash-plain (two x a b) m h k = k
-slash-plain (three x a b c) m h k = k
-slash-plain (row ns) m h k = k
-slash-plain (matrix align ns) m h k = k
+slash-plain d (leaf l) m h k = slash-leaf-plain d l m h k
+slash-plain d (one x a) m h k = k
+slash-plain d (two x a b) m h k = k
+slash-plain d (three x a b c) m h k = k
+slash-plain d (row ns) m h k = k
+slash-plain d (matrix align ns) m h k = k
 
 cell-plain : (t : Node) (m : List ℕ) → plain m ≡ true → plain (cell t m) ≡ true
 unfolding cell
@@ -115,14 +145,14 @@ cell-plain (three x a b c) m k = k
 cell-plain (row ns) m k = k
 cell-plain (matrix align ns) m k = k
 
-one-plain : (x : One) (a : Node) (m : List ℕ) → onePlain x ≡ true → TreePlain a → plain m ≡ true → plain (printOne x a m) ≡ true
+one-plain : (d : Dialect) (x : One) (a : Node) (m : List ℕ) → onePlain x ≡ true → TreePlain a → plain m ≡ true → plain (printOne d x a m) ≡ true
 unfolding printOne
-one-plain (One.OverOp c acc) a m h t k = simp (joined, k, accent-plain acc, plain-encode c h)
-one-plain (One.UnderOp c acc) a m h t k = simp (joined, k, accent-plain acc, plain-encode c h)
-one-plain One.Sqrt a m h t k = simp (joined, k)
-one-plain (One.Fenced x y) a m h t k = simp (joined, k, fixed-plain)
-one-plain One.Slashed a m h t k = slash-plain a m t k
-one-plain (One.Style d) a m h t k = simp (joined, k, style-plain d)
+one-plain d (One.OverOp c acc) a m h t k = simp (joined, k, accent-plain acc, character-plain d c h)
+one-plain d (One.UnderOp c acc) a m h t k = simp (joined, k, accent-plain acc, character-plain d c h)
+one-plain d One.Sqrt a m h t k = simp (joined, k)
+one-plain d (One.Fenced x y) a m h t k = simp (joined, k, fixed-plain)
+one-plain d One.Slashed a m h t k = slash-plain d a m t k
+one-plain d (One.Style st) a m h t k = simp (joined, k, style-plain st)
 
 two-plain : (x : Two) (m n : List ℕ) → plain m ≡ true → plain n ≡ true → plain (printTwo x m n) ≡ true
 unfolding printTwo
@@ -141,49 +171,50 @@ three-plain Three.UnderOver m n o h k l = simp (joined, h, k, l)
 
 -- ---- trees over a plain body
 
-module _ (s : List ℕ) (body : plain s ≡ true) where
-  name-plain : (a e : ℕ) → plain (letterText s a e) ≡ true
+module _ (d : Dialect) (s : List ℕ) (body : plain s ≡ true) where
+  name-plain : (a e : ℕ) → plain (letterText d s a e) ≡ true
   unfolding letterText
-  name-plain a e = letters-plain (part a e s) (plain-part a e s body)
+  name-plain a e = plain-text d _ (letters-plain (part a e s) (plain-part a e s body))
 
-  undefined-plain : (u : Undefined) → plain (undefinedMarkup s u) ≡ true
+  undefined-plain : (u : Undefined) → plain (undefinedMarkup d s u) ≡ true
   unfolding undefinedMarkup parseError
   undefined-plain u =
-      let once = debug-plain s u body in
-      simp (joined, escape-plain (debug s u) once, once)
+      let once = escape-plain (debug s u) (debug-plain s u body) in
+      let whole : plain (bytes "Undefined(\"" ++ escape (debug s u) ++ bytes "\")") ≡ true = simp (joined, once) in
+      simp (joined, plain-text d _ whole)
 
-  leaf-plain : (l : Leaf) → leafPlain l ≡ true → plain (printLeaf s l) ≡ true
+  leaf-plain : (l : Leaf) → leafPlain l ≡ true → plain (printLeaf d s l) ≡ true
   unfolding printLeaf widthText sizedMarkup parseError
   leaf-plain (Leaf.Number a e) h = simp (joined, plain-part a e s body)
-  leaf-plain (Leaf.Letter c v) h = letter-plain c v h
-  leaf-plain (Leaf.Operator c) h = operator-plain c h
+  leaf-plain (Leaf.Letter c v) h = letter-plain d c v h
+  leaf-plain (Leaf.Operator c) h = operator-plain d c h
   leaf-plain (Leaf.Function t) h = simp (joined, fixed-plain)
   leaf-plain (Leaf.FunctionName a e) h = simp (joined, name-plain a e)
   leaf-plain (Leaf.Space w) h = simp (joined, width-plain w)
-  leaf-plain (Leaf.StrechedOp o) h = simp (joined, stretched-plain o h)
+  leaf-plain (Leaf.StrechedOp o) h = simp (joined, stretched-plain d o h)
   leaf-plain (Leaf.OtherOperator t) h = simp (joined, fixed-plain)
-  leaf-plain (Leaf.SizedParen z t) h = simp (joined, fixed-plain)
+  leaf-plain (Leaf.SizedParen z t) h = simp (joined, fixed-plain, sized-end-plain d)
   leaf-plain (Leaf.Text a e) h = simp (joined, name-plain a e)
-  leaf-plain Leaf.Ampersand h = simp joined
-  leaf-plain Leaf.NewLine h = simp joined
+  leaf-plain Leaf.Ampersand h = simp (joined, plain-text d _ (plain-bytes "Ampersand" refl))
+  leaf-plain Leaf.NewLine h = simp (joined, plain-text d _ (plain-bytes "NewLine" refl))
   leaf-plain (Leaf.Undefined u) h = undefined-plain u
 
   mutual
     unfolding print
 
-    pub print-plain : (t : Node) → TreePlain t → plain (print s t) ≡ true
+    pub print-plain : (t : Node) → TreePlain t → plain (print d s t) ≡ true
     print-plain (leaf l) h = leaf-plain l h
-    print-plain (one k a) h = one-plain k a (print s a) (h .0) (h .1) (print-plain a (h .1))
-    print-plain (two k a b) h = two-plain k (print s a) (print s b) (print-plain a (h .0)) (print-plain b (h .1))
+    print-plain (one k a) h = one-plain d k a (print d s a) (h .0) (h .1) (print-plain a (h .1))
+    print-plain (two k a b) h = two-plain k (print d s a) (print d s b) (print-plain a (h .0)) (print-plain b (h .1))
     print-plain (three k a b c) h =
-        three-plain k (print s a) (print s b) (print s c) (print-plain a (h .0)) (print-plain b (h .1)) (print-plain c (h .2))
+        three-plain k (print d s a) (print d s b) (print d s c) (print-plain a (h .0)) (print-plain b (h .1)) (print-plain c (h .2))
     print-plain (row ns) h = simp (joined, all-plain ns h)
-    print-plain (matrix align ns) h = simp (joined, align-plain align, cells-plain ns h)
+    print-plain (matrix align ns) h = simp (joined, align-in-plain d align, cells-plain ns h)
 
-    pub all-plain : (ns : Nodes) → AllPlain ns → plain (printAll s ns) ≡ true
+    pub all-plain : (ns : Nodes) → AllPlain ns → plain (printAll d s ns) ≡ true
     all-plain empty h = plain-bytes "" refl
     all-plain (n then ns) h = simp (joined, print-plain n (h .0), all-plain ns (h .1))
 
-    cells-plain : (ns : Nodes) → AllPlain ns → plain (printCells s ns) ≡ true
+    cells-plain : (ns : Nodes) → AllPlain ns → plain (printCells d s ns) ≡ true
     cells-plain empty h = plain-bytes "" refl
-    cells-plain (n then ns) h = simp (joined, cell-plain n (print s n) (print-plain n (h .0)), cells-plain ns (h .1))
+    cells-plain (n then ns) h = simp (joined, cell-plain n (print d s n) (print-plain n (h .0)), cells-plain ns (h .1))

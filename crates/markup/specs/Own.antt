@@ -5,13 +5,13 @@ use mathlib.Core.List.{List, _++_}
 use Prim.Native.Nat.{ℕ}
 use lib.ListN.{length}
 use Rattle.text.specs.Text.{bytes}
-use Rattle.attribute.specs.Names.{columnAlign}
+use Rattle.text.specs.declared.Dialect.{Dialect}
 use Rattle.ast.specs.declared.Leaf.{Leaf}
 use Rattle.ast.specs.declared.Shape.{Shape}
 use Rattle.ast.specs.Tree.{leaf}
 use Rattle.ast.specs.Sum.{Weigh}
 use Rattle.markup.specs.declared.Place.{Place}
-use Rattle.markup.specs.Print.{printLeaf, atPlace}
+use Rattle.markup.specs.Print.{printLeaf, atPlace, alignText}
 use Rattle.markup.specs.Fronts.{frontOne, backOne, frontTwo, backTwo, frontThree, backThree}
 
 -- where a record is printed that is under a slash, or is not
@@ -20,21 +20,21 @@ under true = Place.Slashed
 under false = Place.Plain
 
 -- the text of a record of the kind k, without that of its parts
-unfoldable pub ownText : Place → List ℕ → Shape → List ℕ
-ownText place s (Shape.Leaf l) = atPlace place (leaf l) (printLeaf s l)
-ownText place s (Shape.One k) = frontOne k ++ backOne k
-ownText place s (Shape.Two k) = frontTwo k ++ backTwo k
-ownText place s (Shape.Three k) = frontThree k ++ backThree k
-ownText place s (Shape.Row n) = bytes "<mrow>" ++ bytes "</mrow>"
-ownText place s (Shape.Matrix align n) = (bytes "<mtable" ++ bytes (columnAlign align) ++ bytes "><mtr><mtd>") ++ bytes "</mtd></mtr></mtable>"
+unfoldable pub ownText : Dialect → Place → List ℕ → Shape → List ℕ
+ownText d place s (Shape.Leaf l) = atPlace d place (leaf l) (printLeaf d s l)
+ownText d place s (Shape.One k) = frontOne d k ++ backOne d k
+ownText d place s (Shape.Two k) = frontTwo k ++ backTwo k
+ownText d place s (Shape.Three k) = frontThree k ++ backThree k
+ownText d place s (Shape.Row n) = bytes "<mrow>" ++ bytes "</mrow>"
+ownText d place s (Shape.Matrix align n) = (bytes "<mtable" ++ alignText d align ++ bytes "><mtr><mtd>") ++ bytes "</mtd></mtr></mtable>"
 
 -- the length of the markup as a measure of trees of the body s
-unfoldable pub own : List ℕ → Weigh
-own s = record {
-  plain = λ l. length (ownText Place.Plain s (Shape.Leaf l));
-  slashed = λ l. length (ownText Place.Slashed s (Shape.Leaf l));
-  cell = λ l. length (ownText Place.Cell s (Shape.Leaf l));
-  around = λ k. length (ownText Place.Plain s k);
+unfoldable pub own : Dialect → List ℕ → Weigh
+own d s = record {
+  plain = λ l. length (ownText d Place.Plain s (Shape.Leaf l));
+  slashed = λ l. length (ownText d Place.Slashed s (Shape.Leaf l));
+  cell = λ l. length (ownText d Place.Cell s (Shape.Leaf l));
+  around = λ k. length (ownText d Place.Plain s k);
 }
 
 -- one for a leaf that prints an error text

@@ -10,27 +10,36 @@ use attribute::DisplayStyle;
 use attribute::LineThickness;
 use attribute::put_accent;
 use attribute::put_line_thickness;
+use text::Dialect;
 use text::put::put;
 ghost use mathlib.Core.List.{_++_};
 ghost use lib.ListN.{length};
 ghost use Rattle.text.specs.Text.{bytes};
 ghost use Rattle.text.specs.Put.{Room, Puts};
-ghost use Rattle.markup.specs.Fronts.{accentText, frontOne, backOne, frontTwo, backTwo, frontThree, backThree};
+ghost use Rattle.markup.specs.Fronts.{accentText, styleFront, frontOne, backOne, frontTwo, backTwo, frontThree, backThree};
 
 // Puts the operator over or under a node, and the piece that closes the node.
-fn put_accented(a: Accent, c: u32, end: &[u8], out: &mut [u8], at: usize, write: bool) -> usize
-    requires { ⌜ Room write (now out) at (length (accentText a c (now end))) ⌝ }
-    ensures { λ r. ⌜ Puts write (now (out .entry)) (now (out .exit)) at (accentText a c (now (end .entry))) r ⌝ }
+fn put_accented(
+    dialect: Dialect,
+    a: Accent,
+    c: u32,
+    end: &[u8],
+    out: &mut [u8],
+    at: usize,
+    write: bool,
+) -> usize
+    requires { ⌜ Room write (now out) at (length (accentText dialect a c (now end))) ⌝ }
+    ensures { λ r. ⌜ Puts write (now (out .entry)) (now (out .exit)) at (accentText dialect a c (now (end .entry))) r ⌝ }
 {
     let name = put(b"<mo accent=\"", out, at, write);
     let inner = put_accent(a, out, name, write);
-    put_character_in(b"\">", c, end, out, inner, write)
+    put_character_in(dialect, b"\">", c, end, out, inner, write)
 }
 
 // Puts the opening tag of a style.
 fn put_style(d: DisplayStyle, out: &mut [u8], at: usize, write: bool) -> usize
-    requires { ⌜ Room write (now out) at (length (frontOne (One.Style d))) ⌝ }
-    ensures { λ r. ⌜ Puts write (now (out .entry)) (now (out .exit)) at (frontOne (One.Style d)) r ⌝ }
+    requires { ⌜ Room write (now out) at (length (styleFront d)) ⌝ }
+    ensures { λ r. ⌜ Puts write (now (out .entry)) (now (out .exit)) at (styleFront d) r ⌝ }
 {
     match d {
         DisplayStyle::Block => put(&{ *b"<mstyle displaystyle=\"true\">" }, out, at, write),
@@ -39,15 +48,16 @@ fn put_style(d: DisplayStyle, out: &mut [u8], at: usize, write: bool) -> usize
 }
 
 // Puts what stands before the part of a node with one part.
-pub fn put_front_one(k: One, out: &mut [u8], at: usize, write: bool) -> usize
-    requires { ⌜ Room write (now out) at (length (frontOne k)) ⌝ }
-    ensures { λ r. ⌜ Puts write (now (out .entry)) (now (out .exit)) at (frontOne k) r ⌝ }
+pub fn put_front_one(dialect: Dialect, k: One, out: &mut [u8], at: usize, write: bool) -> usize
+    requires { ⌜ Room write (now out) at (length (frontOne dialect k)) ⌝ }
+    ensures { λ r. ⌜ Puts write (now (out .entry)) (now (out .exit)) at (frontOne dialect k) r ⌝ }
 {
     match k {
         One::OverOp(_, _) => put(&{ *b"<mover>" }, out, at, write),
         One::UnderOp(_, _) => put(&{ *b"<munder>" }, out, at, write),
         One::Sqrt => put(&{ *b"<msqrt>" }, out, at, write),
         One::Fenced(t, _) => put_text_in(
+            dialect,
             &{ *b"<mrow><mo stretchy=\"true\" form=\"prefix\">" },
             t,
             &{ *b"</mo>" },
@@ -61,15 +71,16 @@ pub fn put_front_one(k: One, out: &mut [u8], at: usize, write: bool) -> usize
 }
 
 // Puts what stands behind the part of a node with one part.
-pub fn put_back_one(k: One, out: &mut [u8], at: usize, write: bool) -> usize
-    requires { ⌜ Room write (now out) at (length (backOne k)) ⌝ }
-    ensures { λ r. ⌜ Puts write (now (out .entry)) (now (out .exit)) at (backOne k) r ⌝ }
+pub fn put_back_one(dialect: Dialect, k: One, out: &mut [u8], at: usize, write: bool) -> usize
+    requires { ⌜ Room write (now out) at (length (backOne dialect k)) ⌝ }
+    ensures { λ r. ⌜ Puts write (now (out .entry)) (now (out .exit)) at (backOne dialect k) r ⌝ }
 {
     match k {
-        One::OverOp(c, a) => put_accented(a, c, &{ *b"</mo></mover>" }, out, at, write),
-        One::UnderOp(c, a) => put_accented(a, c, &{ *b"</mo></munder>" }, out, at, write),
+        One::OverOp(c, a) => put_accented(dialect, a, c, &{ *b"</mo></mover>" }, out, at, write),
+        One::UnderOp(c, a) => put_accented(dialect, a, c, &{ *b"</mo></munder>" }, out, at, write),
         One::Sqrt => put(&{ *b"</msqrt>" }, out, at, write),
         One::Fenced(_, u) => put_text_in(
+            dialect,
             &{ *b"<mo stretchy=\"true\" form=\"postfix\">" },
             u,
             &{ *b"</mo></mrow>" },

@@ -7,6 +7,8 @@ use Prim.Native.String.{String}
 use lib.ListN.{length, replicate}
 use Rattle.text.specs.Text.{bytes}
 use Rattle.error.specs.declared.Refusal.{Refusal}
+use Rattle.latex2mathml.specs.declared.Manner.{Manner}
+use Rattle.latex2mathml.specs.Manner.{old, strict}
 use Rattle.latex2mathml.specs.Outcome.{Outcome, accepted, refused}
 use Rattle.latex2mathml.specs.Written.{over}
 use Rattle.latex2mathml.specs.Replace.{replacement}
@@ -18,28 +20,28 @@ use Rattle.page.specs.Examples.{page-opens}
 use Rattle.page.proofs.DemandLaws.{long-enough, demand3}
 use Rattle.page.proofs.RunLaws.{ran}
 
--- the run of a document with the page program's store and work buffer and an output of 300 bytes, which hold zeros
+-- the run of a document in a manner with the page program's store and work buffer and an output of 300 bytes, which hold zeros
 abbrev zeros : List ℕ
 zeros = replicate 300 0
 
-abbrev on : String → Run
-on document = let d = bytes document in ran d 61440 65536 zeros (over (outputOf (page d 61440 65536 (length zeros))) zeros) refl
+abbrev on : Manner → String → Run
+on manner document = let d = bytes document in ran manner d 61440 65536 zeros (over (outputOf (page manner d 61440 65536 (length zeros))) zeros) refl
 
 -- what a paragraph is replaced by there, or why it is refused
-abbrev there : String → Outcome (List ℕ)
-there p = replacement (bytes p) 61440 65536
+abbrev there : Manner → String → Outcome (List ℕ)
+there manner p = replacement manner (bytes p) 61440 65536
 
 -- the markup of a letter as an inline formula
 unfoldable letter : String → List ℕ
 letter c = bytes "<math xmlns=\"http://www.w3.org/1998/Math/MathML\" display=\"inline\"><mi>" ++ bytes c ++ bytes "</mi></math>"
 
--- ---- whatever a paragraph holds: the first one, of a page whose lines end with CR LF, is refused in one run and replaced in the other
+-- ---- whatever a paragraph holds, in the old dialect: the first one, of a page whose lines end with CR LF, is refused in one run and replaced in the other
 
 abbrev slipped : Run
-slipped = on "$a\r\n\r\n$x$"
+slipped = on old "$a\r\n\r\n$x$"
 
 abbrev mended : Run
-mended = on "$a$\r\n\r\n$x$"
+mended = on old "$a$\r\n\r\n$x$"
 
 both-accepted : (slipped .answer ≡ PageAnswer.Accepted 89 2 1) × (mended .answer ≡ PageAnswer.Accepted 170 2 0)
 unfolding page-opens
@@ -49,16 +51,16 @@ one-paragraph-differs : DifferInParagraph (slipped .document) (mended .document)
 unfolding page-opens
 one-paragraph-differs = record { before = []; behind = break (bytes "\r\n\r\n") ∷ paragraph (bytes "$x$") ∷ []; first = refl; second = refl }
 
-refused-and-replaced : (there "$a" ≡ refused Refusal.InvalidNumberOfDollarSigns) × (there "$a$" ≡ accepted (letter "a"))
+refused-and-replaced : (there old "$a" ≡ refused Refusal.InvalidNumberOfDollarSigns) × (there old "$a$" ≡ accepted (letter "a"))
 unfolding page-opens letter
 refused-and-replaced = (refl, refl)
 
-shares : TwoRuns (slipped .document) (mended .document) 61440 65536 one-paragraph-differs (output slipped) (output mended)
+shares : TwoRuns old (slipped .document) (mended .document) 61440 65536 one-paragraph-differs (output slipped) (output mended)
 shares =
-    demand3 .twoRuns slipped mended (89, 2, 1, both-accepted .0) (170, 2, 0, both-accepted .1) (record { store = refl; work = refl; room = refl })
+    demand3 .twoRuns slipped mended (89, 2, 1, both-accepted .0) (170, 2, 0, both-accepted .1) (record { manner = refl; store = refl; work = refl; room = refl })
     one-paragraph-differs
 
--- ---- one formula's body: the second formula of the last paragraph
+-- ---- one formula's body, in the strict dialect: the second formula of the last paragraph
 
 abbrev before : String
 before = "$a$ to $b$"
@@ -67,10 +69,10 @@ abbrev after : String
 after = "$a$ to $c$"
 
 abbrev lower : Run
-lower = on "up\n\n$a$ to $b$"
+lower = on strict "up\n\n$a$ to $b$"
 
 abbrev higher : Run
-higher = on "up\n\n$a$ to $c$"
+higher = on strict "up\n\n$a$ to $c$"
 
 both-accepted-too : (lower .answer ≡ PageAnswer.Accepted 174 2 0) × (higher .answer ≡ PageAnswer.Accepted 174 2 0)
 unfolding page-opens
@@ -89,15 +91,15 @@ one-body-differs = record {
   differ = record { before = prose [] ∷ formula 1 (bytes "a") ∷ prose (bytes " to ") ∷ []; behind = prose [] ∷ []; first = refl; second = refl };
 }
 
-both-replaced : (there before ≡ accepted (letter "a" ++ bytes " to " ++ letter "b")) × (there after ≡ accepted (letter "a" ++ bytes " to " ++ letter "c"))
+both-replaced : (there strict before ≡ accepted (letter "a" ++ bytes " to " ++ letter "b")) × (there strict after ≡ accepted (letter "a" ++ bytes " to " ++ letter "c"))
 unfolding page-opens letter
 both-replaced = (refl, refl)
 
-shares-too : TwoRuns (lower .document) (higher .document) 61440 65536 last-paragraph-differs (output lower) (output higher)
+shares-too : TwoRuns strict (lower .document) (higher .document) 61440 65536 last-paragraph-differs (output lower) (output higher)
 shares-too =
-    demand3 .twoRuns lower higher (174, 2, 0, both-accepted-too .0) (174, 2, 0, both-accepted-too .1) (record { store = refl; work = refl; room = refl })
+    demand3 .twoRuns lower higher (174, 2, 0, both-accepted-too .0) (174, 2, 0, both-accepted-too .1) (record { manner = refl; store = refl; work = refl; room = refl })
     last-paragraph-differs
 
-all-but-the-markup : AllButOne 61440 65536 (shares-too .others) (one-body-differs .differ) (letter "a" ++ bytes " to " ++ letter "b") (letter "a" ++ bytes " to " ++ letter "c")
+all-but-the-markup : AllButOne strict 61440 65536 (shares-too .others) (one-body-differs .differ) (letter "a" ++ bytes " to " ++ letter "b") (letter "a" ++ bytes " to " ++ letter "c")
 all-but-the-markup =
-    shares-too .body one-body-differs _ _ (long-enough 61440 65536 (bytes before) _ (both-replaced .0)) (long-enough 61440 65536 (bytes after) _ (both-replaced .1))
+    shares-too .body one-body-differs _ _ (long-enough strict 61440 65536 (bytes before) _ (both-replaced .0)) (long-enough strict 61440 65536 (bytes after) _ (both-replaced .1))

@@ -11,6 +11,7 @@ use borrow.Author.Tests.{lt-ltb, le-ltb}
 use Rattle.text.specs.Put.{Room, Puts}
 use Rattle.text.proofs.PutLaws.{puts-all}
 use Rattle.error.specs.declared.Refusal.{Refusal}
+use Rattle.latex2mathml.specs.declared.Manner.{Manner}
 use Rattle.latex2mathml.specs.Outcome.{accepted, refused, _>>=_, refuse, documentLimit, numberOf}
 use Rattle.latex2mathml.specs.Written.{over}
 use Rattle.page.specs.declared.PageAnswer.{PageAnswer}
@@ -21,36 +22,36 @@ use Rattle.page.specs.Run.{answerNumber, answerLength, answerParagraphs,
 use Rattle.page.specs.Marks.{Totalled}
 
 -- a refused page leaves the output as it was
-pub pages-refused : (document : List ℕ) (store work : ℕ) (r : Refusal) (o : List ℕ) → page document store work (length o) ≡ refused r
-    → Pages document store work (PageAnswer.Refused r) o o
+pub pages-refused : (manner : Manner) (document : List ℕ) (store work : ℕ) (r : Refusal) (o : List ℕ) → page manner document store work (length o) ≡ refused r
+    → Pages manner document store work (PageAnswer.Refused r) o o
 unfolding answerNumber answerLength answerParagraphs answerLeft numberOf outputOf paragraphsOf leftOf over
-pages-refused document store work r o e = record { number = rw e; size = rw e; paragraphs = rw e; left = rw e; output = rw e }
+pages-refused manner document store work r o e = record { number = rw e; size = rw e; paragraphs = rw e; left = rw e; output = rw e }
 
-module _ (document : List ℕ) (store work : ℕ) (o : List ℕ) where
-  pub pages-long : 32768 < length document → Pages document store work (PageAnswer.Refused Refusal.TooLong) o o
+module _ (manner : Manner) (document : List ℕ) (store work : ℕ) (o : List ℕ) where
+  pub pages-long : 32768 < length document → Pages manner document store work (PageAnswer.Refused Refusal.TooLong) o o
   unfolding page documentLimit _>>=_ refuse
-  pages-long h = pages-refused document store work Refusal.TooLong o (rw (page, lt-ltb 32768 (length document) h))
+  pages-long h = pages-refused manner document store work Refusal.TooLong o (rw (page, lt-ltb 32768 (length document) h))
 
-  module _ {d m : List ℕ} {t : Totals} (few : length document ≤ 32768) (h : Totalled document store work d m t) where
-    pub pages-full : length o < t .length → Pages document store work (PageAnswer.Refused Refusal.OutputTooSmall) o o
+  module _ {d m : List ℕ} {t : Totals} (few : length document ≤ 32768) (h : Totalled manner document store work d m t) where
+    pub pages-full : length o < t .length → Pages manner document store work (PageAnswer.Refused Refusal.OutputTooSmall) o o
     unfolding page documentLimit _>>=_ refuse
     pages-full full =
-        let over-long = lt-ltb (length o) (length (shownAll store work (pieces document))) (omega (arith, h .long)) in
-        pages-refused document store work Refusal.OutputTooSmall o (rw (page, le-ltb 32768 (length document) few, over-long))
+        let over-long = lt-ltb (length o) (length (shownAll manner store work (pieces document))) (omega (arith, h .long)) in
+        pages-refused manner document store work Refusal.OutputTooSmall o (rw (page, le-ltb 32768 (length document) few, over-long))
 
     accepts : t .length ≤ length o
-        → page document store work (length o)
+        → page manner document store work (length o)
         ≡ accepted (record {
-          output = shownAll store work (pieces document);
+          output = shownAll manner store work (pieces document);
           paragraphs = paragraphs (pieces document);
-          left = leftAll store work (pieces document);
+          left = leftAll manner store work (pieces document);
         })
     unfolding page documentLimit _>>=_ refuse
     accepts room =
-        rw (page, le-ltb 32768 (length document) few, le-ltb (length o) (length (shownAll store work (pieces document))) (omega (arith, h .long)))
+        rw (page, le-ltb 32768 (length document) few, le-ltb (length o) (length (shownAll manner store work (pieces document))) (omega (arith, h .long)))
 
-    pub pages-written : t .length ≤ length o → {o′ : List ℕ} {r : ℕ} → Puts true o o′ 0 (shownAll store work (pieces document)) r
-        → Pages document store work (PageAnswer.Accepted (t .length) (t .paragraphs) (t .left)) o o′
+    pub pages-written : t .length ≤ length o → {o′ : List ℕ} {r : ℕ} → Puts true o o′ 0 (shownAll manner store work (pieces document)) r
+        → Pages manner document store work (PageAnswer.Accepted (t .length) (t .paragraphs) (t .left)) o o′
     unfolding answerNumber answerLength answerParagraphs answerLeft numberOf outputOf paragraphsOf leftOf over
     pages-written room puts = record {
       number = rw (accepts room);
@@ -70,5 +71,5 @@ module _ (document : List ℕ) (store work : ℕ) (o : List ℕ) where
           let e = copy-long in
           record { small = omega arith; inside = λ z. omega arith }
 
-      pub pages-copied : (o′ : List ℕ) {r : ℕ} → Puts true o o′ 0 (take (t .length) d) r → Pages document store work (PageAnswer.Accepted (t .length) (t .paragraphs) (t .left)) o o′
+      pub pages-copied : (o′ : List ℕ) {r : ℕ} → Puts true o o′ 0 (take (t .length) d) r → Pages manner document store work (PageAnswer.Accepted (t .length) (t .paragraphs) (t .left)) o o′
       pages-copied o′ puts = pages-written room (rw (h .front fits) at puts)

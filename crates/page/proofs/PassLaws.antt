@@ -10,6 +10,7 @@ use lib.Seq.{take-at, drop-at}
 use Rattle.text.specs.Text.{part}
 use Rattle.text.proofs.Cases.{never}
 use Rattle.attribute.specs.declared.DisplayStyle.{DisplayStyle}
+use Rattle.latex2mathml.specs.declared.Manner.{Manner}
 use Rattle.latex2mathml.specs.Outcome.{Outcome, accepted, refused, _>>=_}
 use Rattle.latex2mathml.specs.Replace.{places, translateBody, substitute}
 use Rattle.latex2mathml.specs.Dollars.{mark, width}
@@ -65,10 +66,10 @@ two-steps (accepted m) (refused r) done text e = never cc
 two-steps (refused r) (accepted l) done text e = never cc
 two-steps (refused r) (refused q) done text e = never cc
 
-module _ (store : ℕ) (display : DisplayStyle) where
+module _ (manner : Manner) (store : ℕ) (display : DisplayStyle) where
   abbrev pub Becomes : Item → List ℕ → Type 0
   Becomes (still x) y = y ≡ x
-  Becomes (body b) y = translateBody store display b ≡ accepted y
+  Becomes (body b) y = translateBody manner store display b ≡ accepted y
 
   -- what is done already, and what the items behind it become
   record Rest (done : List ℕ) (items : List Item) (text : List ℕ) : Type 0 where
@@ -81,7 +82,7 @@ module _ (store : ℕ) (display : DisplayStyle) where
   still-rest x done text items r =
       record { outs = x ∷ r .outs; each = (refl, r .each); whole = r .whole ∙ append-assoc done x (joined (λ t. t) (r .outs)) }
 
-  body-rest : {b done text : List ℕ} {items : List Item} {others : Outcome (List ℕ)} (t : Turn (translateBody store display b) others done text)
+  body-rest : {b done text : List ℕ} {items : List Item} {others : Outcome (List ℕ)} (t : Turn (translateBody manner store display b) others done text)
       → Rest [] items (t .behind) → Rest done (body b ∷ items) text
   unfolding flatten
   body-rest t r = record { outs = t .markup ∷ r .outs; each = (t .is, r .each); whole = rw (← r .whole) (t .whole) }
@@ -92,16 +93,16 @@ module _ (store : ℕ) (display : DisplayStyle) where
 
     -- from one pair of marks to what is behind it
     turn : (from a e : ℕ) (marks done b text : List ℕ) → part (a + w) e s ≡ b → part from a s ≡ done
-        → substitute store display w s from (a ∷ e ∷ marks) ≡ accepted text
-        → Turn (translateBody store display b) (substitute store display w s (e + w) marks) done text
+        → substitute manner store display w s from (a ∷ e ∷ marks) ≡ accepted text
+        → Turn (translateBody manner store display b) (substitute manner store display w s (e + w) marks) done text
     unfolding substitute
     turn from a e marks done b text own front is =
-        two-steps (translateBody store display b) (substitute store display w s (e + w) marks) done text (rw (own, front) at is)
+        two-steps (translateBody manner store display b) (substitute manner store display w s (e + w) marks) done text (rw (own, front) at is)
 
     -- from is the place of what is done, at the place behind it
     rest : (items : List Item) (before done text : List ℕ) (from at : ℕ) → Finds double items
         → s ≡ before ++ (done ++ marked double items) → from ≡ length before → at ≡ from + length done
-        → substitute store display w s from (places (mark double) at (marked double items)) ≡ accepted text → Rest done items text
+        → substitute manner store display w s from (places (mark double) at (marked double items)) ≡ accepted text → Rest done items text
     unfolding substitute places flatten
     rest [] before done text from at h cut first last is = record {
       outs = [];
@@ -121,7 +122,7 @@ module _ (store : ℕ) (display : DisplayStyle) where
         body-rest t
         (rest items (before ++ (done ++ (d ++ (b ++ d)))) [] (t .behind) (e + w) (e + w) (h .1) (cut ∙ simp append-assoc) (simp length-append (omega arith)) (omega arith) (t .next))
 
-  pub passed-made : (double : Bool) (items : List Item) (text : List ℕ) → Finds double items → passed store display double (marked double items) ≡ accepted text
+  pub passed-made : (double : Bool) (items : List Item) (text : List ℕ) → Finds double items → passed manner store display double (marked double items) ≡ accepted text
       → Made Becomes (λ t. t) items text
   passed-made double items text h is =
       let r = rest double (marked double items) items [] [] text 0 0 h refl refl refl is in

@@ -15,6 +15,7 @@ use Rattle.text.proofs.AnyLaws.{none-sides}
 use Rattle.text.proofs.PlainLaws.{plain-append}
 use Rattle.text.proofs.PutLaws.{puts-all}
 use Rattle.error.specs.declared.Refusal.{Refusal}
+use Rattle.latex2mathml.specs.declared.Manner.{Manner}
 use Rattle.latex2mathml.specs.Outcome.{accepted, _>>=_, refuse, documentLimit, numberOf}
 use Rattle.latex2mathml.specs.Dollars.{nextPlace, unusual, isProse}
 use Rattle.latex2mathml.specs.Written.{over}
@@ -41,42 +42,42 @@ prose-both l m h =
     let bare = and-eq-true-iff (plain l) (plain m) .0 (sym (plain-append l m) ∙ sides .1) in
     (rw (isProse, low .0, bare .0), rw (isProse, low .1, bare .1))
 
-module _ (store work : ℕ) where
+module _ (manner : Manner) (store work : ℕ) where
   -- every paragraph comes out as typed
   typed : (ps : Pieces) → isProse (typedAll ps) ≡ true → length (typedAll ps) ≤ 32768 → length (typedAll ps) ≤ work
-      → (shownAll store work ps ≡ typedAll ps) × (leftAll store work ps ≡ 0)
+      → (shownAll manner store work ps ≡ typedAll ps) × (leftAll manner store work ps ≡ 0)
   unfolding typedAll shownAll leftAll
   typed (last p) prose short fits =
-      let e = prose-typed p store work prose short fits in
-      (shown-replaced p store work p e, left-replaced p store work p e)
+      let e = prose-typed manner p store work prose short fits in
+      (shown-replaced manner p store work p e, left-replaced manner p store work p e)
   typed (piece p b rest) prose short fits =
       let front = prose-both (p ++ b) (typedAll rest) prose in
       let size = length-append (p ++ b) (typedAll rest) in
       let size′ = length-append p b in
-      let e = prose-typed p store work (prose-both p b (front .0) .0) (omega arith) (omega arith) in
+      let e = prose-typed manner p store work (prose-both p b (front .0) .0) (omega arith) (omega arith) in
       let r = typed rest (front .1) (omega arith) (omega arith) in
-      (rw (shown-replaced p store work p e, r .0), rw (left-replaced p store work p e, r .1))
+      (rw (shown-replaced manner p store work p e, r .0), rw (left-replaced manner p store work p e, r .1))
 
 -- The page operation on prose.
-module _ (d : List ℕ) (prose : isProse d ≡ true) (short : length d ≤ 32768) (store work : ℕ) (fits : length d ≤ work) (o : List ℕ) where
-  as-typed : (shownAll store work (pieces d) ≡ d) × (leftAll store work (pieces d) ≡ 0)
+module _ (d : List ℕ) (prose : isProse d ≡ true) (short : length d ≤ 32768) (manner : Manner) (store work : ℕ) (fits : length d ≤ work) (o : List ℕ) where
+  as-typed : (shownAll manner store work (pieces d) ≡ d) × (leftAll manner store work (pieces d) ≡ 0)
   as-typed =
       let whole = cut-joins d in
-      let t = typed store work (pieces d) (rw whole prose) (rw whole short) (rw whole fits) in
+      let t = typed manner store work (pieces d) (rw whole prose) (rw whole short) (rw whole fits) in
       (t .0 ∙ whole, t .1)
 
-  pub prose-full : length o < length d → Pages d store work (PageAnswer.Refused Refusal.OutputTooSmall) o o
+  pub prose-full : length o < length d → Pages manner d store work (PageAnswer.Refused Refusal.OutputTooSmall) o o
   unfolding page documentLimit _>>=_ refuse
   prose-full l =
-      pages-refused d store work Refusal.OutputTooSmall o (rw (page, le-ltb 32768 (length d) short, as-typed .0, lt-ltb (length o) (length d) l))
+      pages-refused manner d store work Refusal.OutputTooSmall o (rw (page, le-ltb 32768 (length d) short, as-typed .0, lt-ltb (length o) (length d) l))
 
   accepts : length d ≤ length o
-      → page d store work (length o) ≡ accepted (record { output = d; paragraphs = paragraphs (pieces d); left = 0 })
+      → page manner d store work (length o) ≡ accepted (record { output = d; paragraphs = paragraphs (pieces d); left = 0 })
   unfolding page documentLimit _>>=_ refuse
   accepts l = rw (page, le-ltb 32768 (length d) short, as-typed .0, as-typed .1, le-ltb (length o) (length d) l)
 
   pub prose-paged : length d ≤ length o → (k : ℕ) → k ≡ paragraphs (pieces d) → {o′ : List ℕ} {n : ℕ} → Puts true o o′ 0 d n
-      → Pages d store work (PageAnswer.Accepted n k 0) o o′
+      → Pages manner d store work (PageAnswer.Accepted n k 0) o o′
   unfolding answerNumber answerLength answerParagraphs answerLeft numberOf outputOf paragraphsOf leftOf over
   prose-paged l k counted {o′} {n} p =
       let place = p .place in

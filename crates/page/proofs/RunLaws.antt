@@ -4,6 +4,7 @@ use mathlib.Core.Path.{_≡_, refl}
 use mathlib.Core.List.{List}
 use Prim.Native.Nat.{ℕ}
 use lib.ListN.{length}
+use Rattle.latex2mathml.specs.declared.Manner.{Manner}
 use Rattle.latex2mathml.specs.Outcome.{Outcome, accepted, refused, numberOf}
 use Rattle.latex2mathml.specs.Written.{over}
 use Rattle.page.specs.declared.PageAnswer.{PageAnswer}
@@ -35,10 +36,11 @@ unfolding answerLeft leftOf
 says-left (accepted p) = refl
 says-left (refused r) = refl
 
-abbrev pub ran : (document : List ℕ) (store work : ℕ) (entry exit : List ℕ) → exit ≡ over (outputOf (page document store work (length entry))) entry → Run
-ran document store work entry exit is =
-    let want = page document store work (length entry) in
+abbrev pub ran : (manner : Manner) (document : List ℕ) (store work : ℕ) (entry exit : List ℕ) → exit ≡ over (outputOf (page manner document store work (length entry))) entry → Run
+ran manner document store work entry exit is =
+    let want = page manner document store work (length entry) in
     record {
+      manner = manner;
       document = document;
       store = store;
       work = work;

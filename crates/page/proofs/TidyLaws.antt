@@ -11,6 +11,7 @@ use borrow.Author.Tests.{le-ltb}
 use Rattle.text.proofs.Cases.{never}
 use Rattle.attribute.specs.declared.DisplayStyle.{DisplayStyle}
 use Rattle.error.specs.declared.Refusal.{Refusal}
+use Rattle.latex2mathml.specs.declared.Manner.{Manner}
 use Rattle.latex2mathml.specs.Outcome.{accepted, _>>=_, refuse, bodyLimit}
 use Rattle.latex2mathml.specs.Translate.{latexToMathml, storeTooSmall, translate}
 use Rattle.latex2mathml.specs.Replace.{translateBody, replacement, replaceOutcome, replace}
@@ -29,24 +30,24 @@ use Rattle.page.proofs.SpanLaws.{Span, text, maths, partOf, spanned, Re
 -- ---- bodies
 
 -- what an accepted body says
-record Translated (store : ℕ) (display : DisplayStyle) (b m : List ℕ) : Type 0 where
+record Translated (manner : Manner) (store : ℕ) (display : DisplayStyle) (b m : List ℕ) : Type 0 where
   pub short : ltb bodyLimit (length b) ≡ false
   pub stored : storeTooSmall store b ≡ accepted tt
-  pub markup : latexToMathml b display ≡ accepted m
+  pub markup : latexToMathml manner b display ≡ accepted m
 
-translated : (store : ℕ) (display : DisplayStyle) (b m : List ℕ) → translateBody store display b ≡ accepted m → Translated store display b m
+translated : (manner : Manner) (store : ℕ) (display : DisplayStyle) (b m : List ℕ) → translateBody manner store display b ≡ accepted m → Translated manner store display b m
 unfolding translateBody
-translated store display b m is =
+translated manner store display b m is =
     let first = not-refused (ltb bodyLimit (length b)) Refusal.TooLong _ m is in
     let second = steps (storeTooSmall store b) _ m (first .1) in
     record { short = first .0; stored = second .is; markup = second .then }
 
 -- a body of a document is a body translated alone, with room for its markup
-pub alone : (store : ℕ) (display : DisplayStyle) (b m : List ℕ) (room : ℕ) → Readable b → length m ≤ room
-    → translateBody store display b ≡ accepted m → translate b display store room ≡ accepted m
+pub alone : (manner : Manner) (store : ℕ) (display : DisplayStyle) (b m : List ℕ) (room : ℕ) → Readable b → length m ≤ room
+    → translateBody manner store display b ≡ accepted m → translate manner b display store room ≡ accepted m
 unfolding translate refuse _>>=_
-alone store display b m room readable fits is =
-    let t = translated store display b m is in
+alone manner store display b m room readable fits is =
+    let t = translated manner store display b m is in
     rw (translate, t .short, readable .0, readable .1, t .stored, t .markup, le-ltb room (length m) fits)
 
 -- ---- the text of a pass
@@ -96,12 +97,12 @@ after [] xs = []
 after (s ∷ l) [] = []
 after (s ∷ l) (x ∷ xs) = afterOne s x ∷ after l xs
 
-module _ (store : ℕ) where
+module _ (manner : Manner) (store : ℕ) where
   abbrev Block : List Span → List (List ℕ) → Type 0
-  Block l xs = Each (Becomes store DisplayStyle.Block) (map (item true) l) xs
+  Block l xs = Each (Becomes manner store DisplayStyle.Block) (map (item true) l) xs
 
   abbrev Inline : List Span → List (List ℕ) → Type 0
-  Inline l ys = Each (Becomes store DisplayStyle.Inline) (map (item false) l) ys
+  Inline l ys = Each (Becomes manner store DisplayStyle.Inline) (map (item false) l) ys
 
   -- the text of pass one
   after-joined : (l : List Span) (xs : List (List ℕ)) → Block l xs → spanned (after l xs) ≡ joined (λ t. t) xs
@@ -114,7 +115,7 @@ module _ (store : ℕ) where
   after-joined (maths false b ∷ l) (x ∷ xs) (e, more) = rw (e, after-joined l xs more) (simp append-assoc)
 
   -- each span as both passes leave it
-  shows : (l : List Span) (xs ys : List (List ℕ)) → Fine l → Block l xs → Inline (after l xs) ys → Each (Shows store) (map partOf l) ys
+  shows : (l : List Span) (xs ys : List (List ℕ)) → Fine l → Block l xs → Inline (after l xs) ys → Each (Shows manner store) (map partOf l) ys
   unfolding displayOf
   shows [] [] [] h e f = tt
   shows [] [] (y ∷ ys) h e f = absurd f
@@ -123,9 +124,9 @@ module _ (store : ℕ) where
   shows (s ∷ l) (x ∷ xs) [] h e f = absurd f
   shows (text t ∷ l) (x ∷ xs) (y ∷ ys) (h, more) (e, es) (f, fs) = (f ∙ e, shows l xs ys more es fs)
   shows (maths true b ∷ l) (x ∷ xs) (y ∷ ys) (h, more) (e, es) (f, fs) =
-      (λ room fits. alone store DisplayStyle.Block b y room (h .readable) fits (rw f e), shows l xs ys more es fs)
+      (λ room fits. alone manner store DisplayStyle.Block b y room (h .readable) fits (rw f e), shows l xs ys more es fs)
   shows (maths false b ∷ l) (x ∷ xs) (y ∷ ys) (h, more) (e, es) (f, fs) =
-      (λ room fits. alone store DisplayStyle.Inline b y room (h .readable) fits f, shows l xs ys more es fs)
+      (λ room fits. alone manner store DisplayStyle.Inline b y room (h .readable) fits f, shows l xs ys more es fs)
 
   -- pass two finds those of one dollar, as pass one printed none
   finds-inline : (l : List Span) (xs : List (List ℕ)) → Fine l → Block l xs → Finds false (map (item false) (after l xs))
@@ -133,34 +134,34 @@ module _ (store : ℕ) where
   finds-inline (s ∷ l) [] h e = tt
   finds-inline (text t ∷ l) (x ∷ xs) (h, more) (e, es) = (λ at. places-plain false x _ at (rw e h), finds-inline l xs more es)
   finds-inline (maths true b ∷ l) (x ∷ xs) (f, more) (e, es) =
-      let bare = markup-plain b DisplayStyle.Block x (f .bare) (translated store DisplayStyle.Block b x e .markup) in
+      let bare = markup-plain manner b DisplayStyle.Block x (f .bare) (translated manner store DisplayStyle.Block b x e .markup) in
       (λ at. places-plain false x _ at bare, finds-inline l xs more es)
   finds-inline (maths false b ∷ l) (x ∷ xs) (f, more) (e, es) =
       (λ at. places-body b _ at (f .bare) false (λ z. never cc), finds-inline l xs more es)
 
-  spans-made : (l : List Span) (first m : List ℕ) → Fine l → passed store DisplayStyle.Block true (spanned l) ≡ accepted first
-      → passed store DisplayStyle.Inline false first ≡ accepted m → Made (Shows store) (λ t. t) (map partOf l) m
+  spans-made : (l : List Span) (first m : List ℕ) → Fine l → passed manner store DisplayStyle.Block true (spanned l) ≡ accepted first
+      → passed manner store DisplayStyle.Inline false first ≡ accepted m → Made (Shows manner store) (λ t. t) (map partOf l) m
   spans-made l first m h is then =
-      let one = passed-made store DisplayStyle.Block true (map (item true) l) first (finds-block l h) (rw (marked-items true l) is) in
+      let one = passed-made manner store DisplayStyle.Block true (map (item true) l) first (finds-block l h) (rw (marked-items true l) is) in
       let same : first ≡ marked false (map (item false) (after l (one .outs))) =
       one .whole ∙ sym (marked-items false (after l (one .outs)) ∙ after-joined l (one .outs) (one .each)) in
-      let two = passed-made store DisplayStyle.Inline false (map (item false) (after l (one .outs))) m (finds-inline l (one .outs) h (one .each)) (rw same at then) in
+      let two = passed-made manner store DisplayStyle.Inline false (map (item false) (after l (one .outs))) m (finds-inline l (one .outs) h (one .each)) (rw same at then) in
       record { outs = two .outs; each = shows l (one .outs) (two .outs) h (one .each) (two .each); whole = two .whole }
 
 -- ---- the replacement
 
-replaced-is : (d : List ℕ) (store work room : ℕ) (m : List ℕ) → replace d store work room .outcome ≡ accepted m → replacement d store work ≡ accepted m
+replaced-is : (manner : Manner) (d : List ℕ) (store work room : ℕ) (m : List ℕ) → replace manner d store work room .outcome ≡ accepted m → replacement manner d store work ≡ accepted m
 unfolding replace replaceOutcome
-replaced-is d store work room m is =
-    let s = steps (replacement d store work) _ m is in
+replaced-is manner d store work room m is =
+    let s = steps (replacement manner d store work) _ m is in
     let t = not-refused (ltb room (length (s .value))) Refusal.OutputTooSmall _ m (s .then) in
     s .is ∙ t .1
 
-pub tidied : (store work : ℕ) (p m : List ℕ) → tidy p ≡ true → ReplacedBy store work p m → Made (Shows store) (λ t. t) (parts p) m
+pub tidied : (manner : Manner) (store work : ℕ) (p m : List ℕ) → tidy p ≡ true → ReplacedBy manner store work p m → Made (Shows manner store) (λ t. t) (parts p) m
 unfolding tidy parts
-tidied store work p m even replaced =
-    let both = both-accepted p store work m (replaced-is p store work (length m) m (replaced (length m) (omega arith))) in
-    let first = first-accepted p store work (both .text) (both .first) in
+tidied manner store work p m even replaced =
+    let both = both-accepted manner p store work m (replaced-is manner p store work (length m) m (replaced (length m) (omega arith))) in
+    let first = first-accepted manner p store work (both .text) (both .first) in
     let s = spans-of (dollarRuns p) (cut-apart p) even (rw (joins p) (first .checked .well, first .checked .noNul)) in
     rw (← s .parts)
-    (spans-made store (s .spans) (both .text) m (s .fine) (rw (s .typed, joins p) (first .is)) (second-passed store (both .text) m (both .second)))
+    (spans-made manner store (s .spans) (both .text) m (s .fine) (rw (s .typed, joins p) (first .is)) (second-passed manner store (both .text) m (both .second)))

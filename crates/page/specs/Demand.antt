@@ -6,6 +6,7 @@ use mathlib.Core.Bool.{true}
 use mathlib.Core.List.{List, [], _∷_, _++_, map, flatten}
 use Prim.Native.Nat.{ℕ}
 use lib.ListN.{length}
+use Rattle.latex2mathml.specs.declared.Manner.{Manner}
 use Rattle.page.specs.declared.PageAnswer.{PageAnswer}
 use Rattle.page.specs.Pieces.{Pieces, pieces}
 use Rattle.page.specs.Cut.{typedAll, RightCut}
@@ -56,18 +57,18 @@ pub record TheRuns (p : List ℕ) : Type 0 where
 
 -- one run that is not refused: its output is its paragraphs and breaks in order and nothing else, and the two numbers handed back count the
 -- paragraphs and those refused; a tidy paragraph that is replaced comes out as its prose as typed and its formulas' bodies translated alone
-pub record OneRun (document : List ℕ) (store work : ℕ) (output : List ℕ) (paragraphs left : ℕ) : Type 0 where
+pub record OneRun (manner : Manner) (document : List ℕ) (store work : ℕ) (output : List ℕ) (paragraphs left : ℕ) : Type 0 where
   pub cut : TheCut document
-  pub made : Made (Comes store work) written (inOrder document) output
+  pub made : Made (Comes manner store work) written (inOrder document) output
   pub counted : paragraphs ≡ paragraphCount (inOrder document)
   pub kept : left ≡ typedCount (made .outs)
   pub runs : (p : List ℕ) → TheRuns p
-  pub tidied : (p m : List ℕ) → tidy p ≡ true → ReplacedBy store work p m → Made (Shows store) (λ t. t) (parts p) m
+  pub tidied : (p m : List ℕ) → tidy p ≡ true → ReplacedBy manner store work p m → Made (Shows manner store) (λ t. t) (parts p) m
 
 -- two outputs share everything but one formula's markup, where the paragraph with that formula is u in one and v in the other
-pub record AllButOne (store work : ℕ) {xs ys : List Piece} {x y : Piece} {d : Differ xs ys x y} {first second : List ℕ} (others : Shared (Comes store work) written d first second)
+pub record AllButOne (manner : Manner) (store work : ℕ) {xs ys : List Piece} {x y : Piece} {d : Differ xs ys x y} {first second : List ℕ} (others : Shared (Comes manner store work) written d first second)
     {ps qs : List Part} {f g : Part} (e : Differ ps qs f g) (u v : List ℕ) : Type 0 where
-  pub inside : Shared (Shows store) (λ m. m) e u v
+  pub inside : Shared (Shows manner store) (λ m. m) e u v
   pub head : List ℕ
   pub tail : List ℕ
   pub isHead : head ≡ joined written (others .before) ++ joined (λ m. m) (inside .before)
@@ -75,16 +76,17 @@ pub record AllButOne (store work : ℕ) {xs ys : List Piece} {x y : Piece} {d : 
   pub wholeFirst : first ≡ head ++ inside .own ++ tail
   pub wholeSecond : second ≡ head ++ inside .other ++ tail
 
--- two runs with equal lent sizes, neither refused, whose documents differ in one paragraph only: whatever it holds in either, they share every
+-- two runs in one manner with equal lent sizes, neither refused, whose documents differ in one paragraph only: whatever it holds in either, they share every
 -- output byte of all other paragraphs and of the breaks, in order; and if it is tidy with the same dollar runs in both, differs in one
 -- formula's body only and is replaced in both, they share everything but that formula's markup
-pub record TwoRuns (a b : List ℕ) (store work : ℕ) {p q : List ℕ} (d : DifferInParagraph a b p q) (first second : List ℕ) : Type 0 where
-  pub others : Shared (Comes store work) written d first second
+pub record TwoRuns (manner : Manner) (a b : List ℕ) (store work : ℕ) {p q : List ℕ} (d : DifferInParagraph a b p q) (first second : List ℕ) : Type 0 where
+  pub others : Shared (Comes manner store work) written d first second
   pub body : {n k : ℕ} {s t : List ℕ} (e : DifferInBody p q n k s t) (u v : List ℕ)
-      → ReplacedBy store work p u → ReplacedBy store work q v → AllButOne store work others (e .differ) u v
+      → ReplacedBy manner store work p u → ReplacedBy manner store work q v → AllButOne manner store work others (e .differ) u v
 
--- two runs with equal lent sizes
+-- two runs in one manner, with equal lent sizes
 pub record Beside (a b : Run) : Type 0 where
+  pub manner : a .manner ≡ b .manner
   pub store : a .store ≡ b .store
   pub work : a .work ≡ b .work
   pub room : length (a .entry) ≡ length (b .entry)
@@ -96,6 +98,6 @@ NotRefused a = (n : ℕ) × (paragraphs : ℕ) × (left : ℕ) × (a .answer ≡
 -- demand 3, one claim over all paragraphs of a document together and over any two runs
 pub record Demand3 : Type 0 where
   pub oneRun : (a : Run) (n paragraphs left : ℕ) → a .answer ≡ PageAnswer.Accepted n paragraphs left
-      → OneRun (a .document) (a .store) (a .work) (output a) paragraphs left
+      → OneRun (a .manner) (a .document) (a .store) (a .work) (output a) paragraphs left
   pub twoRuns : (a b : Run) → NotRefused a → NotRefused b → Beside a b → {p q : List ℕ} (d : DifferInParagraph (a .document) (b .document) p q)
-      → TwoRuns (a .document) (b .document) (a .store) (a .work) d (output a) (output b)
+      → TwoRuns (a .manner) (a .document) (b .document) (a .store) (a .work) d (output a) (output b)

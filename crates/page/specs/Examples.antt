@@ -8,6 +8,7 @@ use Prim.Native.String.{String}
 use Rattle.text.specs.Text.{bytes}
 use Rattle.error.specs.declared.Refusal.{Refusal}
 use Rattle.latex2mathml.specs.Outcome.{Outcome, accepted, refused}
+use Rattle.latex2mathml.specs.Manner.{old}
 use Rattle.latex2mathml.specs.Marked.{latex2mathml-opens}
 use Rattle.page.specs.Breaks.{lineFeed, lineEnd, inLineEnd, noLineEnd, twoLineEnds}
 use Rattle.page.specs.Pieces.{last, piece, countEnds, cut, pieces}
@@ -68,7 +69,7 @@ unfolding page-opens
 in-parts = refl
 
 -- document 01's page, which takes 89 bytes of output
-slip : map (λ room. page (bytes "a$$$\n\n$x$") 61440 65536 room) (89 ∷ 88 ∷ [])
+slip : map (λ room. page old (bytes "a$$$\n\n$x$") 61440 65536 room) (89 ∷ 88 ∷ [])
     ≡ accepted (record {
       output = bytes "a$$$\n\n<math xmlns=\"http://www.w3.org/1998/Math/MathML\" display=\"inline\"><mi>x</mi></math>";
       paragraphs = 2;
@@ -80,7 +81,7 @@ unfolding page-opens
 slip = refl
 
 -- a paragraph with a NUL stays as typed, in its prose or in a formula, and the others come out as ever
-nul-typed : map (λ s. page (bytes s) 61440 65536 65536) ("\0" ∷ "a\0 $x$\n\n$x$\n\n$\0$" ∷ [])
+nul-typed : map (λ s. page old (bytes s) 61440 65536 65536) ("\0" ∷ "a\0 $x$\n\n$x$\n\n$\0$" ∷ [])
     ≡ accepted (record { output = bytes "\0"; paragraphs = 1; left = 1 })
     ∷ accepted (record {
       output = bytes "a\0 $x$\n\n<math xmlns=\"http://www.w3.org/1998/Math/MathML\" display=\"inline\"><mi>x</mi></math>\n\n$\0$";
@@ -92,11 +93,11 @@ unfolding page-opens
 nul-typed = refl
 
 -- a formula does not reach over a break of CR LF: both paragraphs are left as typed
-cut-formula : page (bytes "$a\r\n\r\nb$") 61440 65536 8 ≡ accepted (record { output = bytes "$a\r\n\r\nb$"; paragraphs = 2; left = 2 })
+cut-formula : page old (bytes "$a\r\n\r\nb$") 61440 65536 8 ≡ accepted (record { output = bytes "$a\r\n\r\nb$"; paragraphs = 2; left = 2 })
 unfolding page-opens
 cut-formula = refl
 
 -- the CR of a break takes no work buffer: with one byte lent, each of these paragraphs of one byte is replaced
-one-byte-of-work : page (bytes "a\r\n\nb") 61440 1 5 ≡ accepted (record { output = bytes "a\r\n\nb"; paragraphs = 2; left = 0 })
+one-byte-of-work : page old (bytes "a\r\n\nb") 61440 1 5 ≡ accepted (record { output = bytes "a\r\n\nb"; paragraphs = 2; left = 0 })
 unfolding page-opens
 one-byte-of-work = refl

@@ -1,33 +1,34 @@
--- The page operation, at the lent sizes.
+-- The page operation in a manner, at the lent sizes.
 -- Assumes nothing.
 use mathlib.Core.List.{List, [], _++_}
 use Prim.Native.Nat.{ℕ, suc, _+_}
 use lib.Dec.{ltb}
 use lib.ListN.{length}
 use Rattle.error.specs.declared.Refusal.{Refusal}
+use Rattle.latex2mathml.specs.declared.Manner.{Manner}
 use Rattle.latex2mathml.specs.Outcome.{Outcome, accepted, refused, _>>=_, refuse, documentLimit}
 use Rattle.latex2mathml.specs.Replace.{replacement}
 use Rattle.page.specs.Pieces.{Pieces, last, piece, pieces}
 
 -- a paragraph as it comes out, and how many paragraphs it leaves as typed, 0 or 1
-unfoldable pub shown : ℕ → ℕ → List ℕ → List ℕ
-shown store work paragraph = elim (replacement paragraph store work) [ accepted output ↦ output | refused r ↦ paragraph ]
+unfoldable pub shown : Manner → ℕ → ℕ → List ℕ → List ℕ
+shown manner store work paragraph = elim (replacement manner paragraph store work) [ accepted output ↦ output | refused r ↦ paragraph ]
 
-unfoldable pub left : ℕ → ℕ → List ℕ → ℕ
-left store work paragraph = elim (replacement paragraph store work) [ accepted output ↦ 0 | refused r ↦ 1 ]
+unfoldable pub left : Manner → ℕ → ℕ → List ℕ → ℕ
+left manner store work paragraph = elim (replacement manner paragraph store work) [ accepted output ↦ 0 | refused r ↦ 1 ]
 
 -- the whole page, with its breaks copied
-unfoldable pub shownAll : ℕ → ℕ → Pieces → List ℕ
-shownAll store work (last paragraph) = shown store work paragraph
-shownAll store work (piece paragraph break rest) = shown store work paragraph ++ break ++ shownAll store work rest
+unfoldable pub shownAll : Manner → ℕ → ℕ → Pieces → List ℕ
+shownAll manner store work (last paragraph) = shown manner store work paragraph
+shownAll manner store work (piece paragraph break rest) = shown manner store work paragraph ++ break ++ shownAll manner store work rest
 
 unfoldable pub paragraphs : Pieces → ℕ
 paragraphs (last paragraph) = 1
 paragraphs (piece paragraph break rest) = suc (paragraphs rest)
 
-unfoldable pub leftAll : ℕ → ℕ → Pieces → ℕ
-leftAll store work (last paragraph) = left store work paragraph
-leftAll store work (piece paragraph break rest) = left store work paragraph + leftAll store work rest
+unfoldable pub leftAll : Manner → ℕ → ℕ → Pieces → ℕ
+leftAll manner store work (last paragraph) = left manner store work paragraph
+leftAll manner store work (piece paragraph break rest) = left manner store work paragraph + leftAll manner store work rest
 
 -- an accepted page: its bytes, the number of its paragraphs, and the number of those left as typed
 pub record Paged : Type 0 where
@@ -36,13 +37,13 @@ pub record Paged : Type 0 where
   pub left : ℕ
 
 -- the page operation, with `store`, `work` and `room` bytes lent for the records, the work buffer and the output
-unfoldable pub page : List ℕ → ℕ → ℕ → ℕ → Outcome Paged
-page document store work room = do
+unfoldable pub page : Manner → List ℕ → ℕ → ℕ → ℕ → Outcome Paged
+page manner document store work room = do
   _ ← refuse (ltb documentLimit (length document)) Refusal.TooLong
   let all = pieces document
-  let output = shownAll store work all
+  let output = shownAll manner store work all
   _ ← refuse (ltb room (length output)) Refusal.OutputTooSmall
-  accepted (record { output = output; paragraphs = paragraphs all; left = leftAll store work all })
+  accepted (record { output = output; paragraphs = paragraphs all; left = leftAll manner store work all })
 
 -- what the operation returns beside the number: the output's first bytes, and the two counts, 0 on refusal
 unfoldable pub outputOf : Outcome Paged → List ℕ

@@ -5,6 +5,7 @@ use mathlib.Core.List.{List}
 use Prim.Native.Nat.{ℕ}
 use lib.ListN.{length}
 use Rattle.error.specs.Numbers.{number}
+use Rattle.latex2mathml.specs.declared.Manner.{Manner}
 use Rattle.latex2mathml.specs.Outcome.{numberOf}
 use Rattle.latex2mathml.specs.Written.{over}
 use Rattle.page.specs.declared.PageAnswer.{PageAnswer}
@@ -28,9 +29,9 @@ answerLeft (PageAnswer.Accepted n paragraphs left) = left
 answerLeft (PageAnswer.Refused r) = 0
 
 -- the page operation, with `store` and `work` bytes lent for the records and the work buffer, answers r, and the output that was o is o′
-pub record Pages (document : List ℕ) (store work : ℕ) (r : PageAnswer) (o o′ : List ℕ) : Type 0 where
-  pub number : answerNumber r ≡ numberOf (page document store work (length o))
-  pub size : answerLength r ≡ length (outputOf (page document store work (length o)))
-  pub paragraphs : answerParagraphs r ≡ paragraphsOf (page document store work (length o))
-  pub left : answerLeft r ≡ leftOf (page document store work (length o))
-  pub output : o′ ≡ over (outputOf (page document store work (length o))) o
+pub record Pages (manner : Manner) (document : List ℕ) (store work : ℕ) (r : PageAnswer) (o o′ : List ℕ) : Type 0 where
+  pub number : answerNumber r ≡ numberOf (page manner document store work (length o))
+  pub size : answerLength r ≡ length (outputOf (page manner document store work (length o)))
+  pub paragraphs : answerParagraphs r ≡ paragraphsOf (page manner document store work (length o))
+  pub left : answerLeft r ≡ leftOf (page manner document store work (length o))
+  pub output : o′ ≡ over (outputOf (page manner document store work (length o))) o

@@ -10,6 +10,7 @@ use lib.ListN.{length, take, replicate}
 use Rattle.text.specs.Plain.{plain}
 use Rattle.attribute.specs.declared.DisplayStyle.{DisplayStyle}
 use Rattle.error.specs.declared.Refusal.{Refusal}
+use Rattle.latex2mathml.specs.declared.Manner.{Manner}
 use Rattle.latex2mathml.specs.Outcome.{Outcome, accepted, refused}
 use Rattle.latex2mathml.specs.Translate.{translate}
 use Rattle.latex2mathml.specs.Replace.{Replaced, replace}
@@ -19,16 +20,17 @@ use Rattle.page.specs.Run.{answerLength, Pages}
 
 -- ---- runs
 
--- a run: what the page operation's own promise says of one call, with its document, the lent sizes, the output at entry, the answer and
+-- a run: what the page operation's own promise says of one call, with its manner, its document, the lent sizes, the output at entry, the answer and
 -- the output at exit
 pub record Run : Type 0 where
+  pub manner : Manner
   pub document : List ℕ
   pub store : ℕ
   pub work : ℕ
   pub entry : List ℕ
   pub answer : PageAnswer
   pub exit : List ℕ
-  pub promise : Pages document store work answer entry exit
+  pub promise : Pages manner document store work answer entry exit
 
 -- an operation's output: the output buffer's first bytes, as many as the length returned
 unfoldable pub output : Run → List ℕ
@@ -54,14 +56,14 @@ paragraphCount [] = 0
 paragraphCount (paragraph p ∷ rest) = suc (paragraphCount rest)
 paragraphCount (break b ∷ rest) = paragraphCount rest
 
--- a paragraph's replacement takes its bytes as a document, with the page's whole store and whole work buffer and an output long enough:
+-- a paragraph's replacement takes its bytes as a document, in the page's manner, with the page's whole store and whole work buffer and an output long enough:
 -- it is replaced by m if that accepts ..
-abbrev pub ReplacedBy : ℕ → ℕ → List ℕ → List ℕ → Type 0
-ReplacedBy store work p m = (room : ℕ) → length m ≤ room → replace p store work room .outcome ≡ accepted m
+abbrev pub ReplacedBy : Manner → ℕ → ℕ → List ℕ → List ℕ → Type 0
+ReplacedBy manner store work p m = (room : ℕ) → length m ≤ room → replace manner p store work room .outcome ≡ accepted m
 
 -- .. and refused if not, however long the output is
-abbrev pub RefusedThere : ℕ → ℕ → List ℕ → Type 0
-RefusedThere store work p = (r : Refusal) × ((room : ℕ) → replace p store work room .outcome ≡ refused r)
+abbrev pub RefusedThere : Manner → ℕ → ℕ → List ℕ → Type 0
+RefusedThere manner store work p = (r : Refusal) × ((room : ℕ) → replace manner p store work room .outcome ≡ refused r)
 
 -- what comes out: a break copied, a paragraph replaced, a paragraph as typed
 pub data Out : Type 0 where
@@ -75,13 +77,13 @@ written (replaced m) = m
 written (typed m) = m
 
 -- each break comes out as typed, each paragraph as its replacement, or as typed exactly where that refuses it
-abbrev pub Comes : ℕ → ℕ → Piece → Out → Type 0
-Comes store work (paragraph p) (copied m) = ⊥
-Comes store work (paragraph p) (replaced m) = ReplacedBy store work p m
-Comes store work (paragraph p) (typed m) = RefusedThere store work p × (m ≡ p)
-Comes store work (break b) (copied m) = m ≡ b
-Comes store work (break b) (replaced m) = ⊥
-Comes store work (break b) (typed m) = ⊥
+abbrev pub Comes : Manner → ℕ → ℕ → Piece → Out → Type 0
+Comes manner store work (paragraph p) (copied m) = ⊥
+Comes manner store work (paragraph p) (replaced m) = ReplacedBy manner store work p m
+Comes manner store work (paragraph p) (typed m) = RefusedThere manner store work p × (m ≡ p)
+Comes manner store work (break b) (copied m) = m ≡ b
+Comes manner store work (break b) (replaced m) = ⊥
+Comes manner store work (break b) (typed m) = ⊥
 
 -- how many paragraphs are refused
 unfoldable pub typedCount : List Out → ℕ
@@ -168,14 +170,14 @@ parts p = partsOf (dollarRuns p)
 unfoldable pub displayOf : ℕ → DisplayStyle
 displayOf n = elim (eqb n 2) [ true ↦ DisplayStyle.Block | false ↦ DisplayStyle.Inline ]
 
--- a body translated alone: the body translation's output for those bytes, with the same store and an output long enough
-abbrev pub Alone : ℕ → ℕ → List ℕ → List ℕ → Type 0
-Alone store n b m = (room : ℕ) → length m ≤ room → translate b (displayOf n) store room ≡ accepted m
+-- a body translated alone: the body translation's output for those bytes, in the same manner with the same store and an output long enough
+abbrev pub Alone : Manner → ℕ → ℕ → List ℕ → List ℕ → Type 0
+Alone manner store n b m = (room : ℕ) → length m ≤ room → translate manner b (displayOf n) store room ≡ accepted m
 
 -- prose comes out as typed, a formula as its body translated alone
-abbrev pub Shows : ℕ → Part → List ℕ → Type 0
-Shows store (prose t) m = m ≡ t
-Shows store (formula n b) m = Alone store n b m
+abbrev pub Shows : Manner → ℕ → Part → List ℕ → Type 0
+Shows manner store (prose t) m = m ≡ t
+Shows manner store (formula n b) m = Alone manner store n b m
 
 -- ---- two documents, two paragraphs
 

@@ -3,6 +3,7 @@ use crate::Totals;
 use crate::breaks::break_end;
 use crate::breaks::next_break;
 use latex2mathml::Answer;
+use latex2mathml::Manner;
 use latex2mathml::replace::lay;
 use latex2mathml::replace::lay_replacement;
 use token::table::Table;
@@ -36,6 +37,7 @@ fn end_of(answer: Answer) -> usize
 
 // Lays a paragraph at a place as it comes out, and marks at k whether it is left as typed; the answer is the place behind it.
 fn draft_paragraph(
+    manner: Manner,
     p: &[u8],
     store: &mut [u8],
     work: &mut [u8],
@@ -46,9 +48,9 @@ fn draft_paragraph(
     table: &Table,
 ) -> usize
     requires { ⌜ (k < length (now left)) × (at + length (now p) * (growth * growth) < 2 ^ 63) × (now table ≡ rows) ⌝ }
-    ensures { λ r. ⌜ Drafted (now (p .entry)) (length (now (store .entry))) (length (now (work .entry))) (now (draft .entry)) (now (draft .exit)) at (now (left .entry)) (now (left .exit)) k r ⌝ }
+    ensures { λ r. ⌜ Drafted manner (now (p .entry)) (length (now (store .entry))) (length (now (work .entry))) (now (draft .entry)) (now (draft .exit)) at (now (left .entry)) (now (left .exit)) k r ⌝ }
 {
-    let answer = lay_replacement(p, store, work, draft, at, table);
+    let answer = lay_replacement(manner, p, store, work, draft, at, table);
     let mark = mark_of(answer);
     left[k] = mark;
     if mark == 0 {
@@ -66,6 +68,7 @@ fn wide(x: u8) -> usize
 
 // Drafts each paragraph in turn, with the breaks between them, and marks those that are left as typed.
 pub fn draft_page(
+    manner: Manner,
     document: &[u8],
     store: &mut [u8],
     work: &mut [u8],
@@ -74,7 +77,7 @@ pub fn draft_page(
     table: &Table,
 ) -> Totals
     requires { ⌜ (length (now document) ≤ 32768) × (length (now document) < 2 * length (now left)) × (now table ≡ rows) ⌝ }
-    ensures { λ r. ⌜ Totalled (now (document .entry)) (length (now (store .entry))) (length (now (work .entry))) (now (draft .exit)) (now (left .exit)) r ⌝ }
+    ensures { λ r. ⌜ Totalled manner (now (document .entry)) (length (now (store .entry))) (length (now (work .entry))) (now (draft .exit)) (now (left .exit)) r ⌝ }
 {
     let mut from: usize = 0;
     let mut at: usize = 0;
@@ -82,7 +85,17 @@ pub fn draft_page(
     let mut refused: usize = 0;
     loop {
         let e = next_break(document, from);
-        at = draft_paragraph(&document[from..e], store, work, draft, at, left, k, table);
+        at = draft_paragraph(
+            manner,
+            &document[from..e],
+            store,
+            work,
+            draft,
+            at,
+            left,
+            k,
+            table,
+        );
         refused += wide(left[k]);
         k += 1;
         if e == document.len() {

@@ -1,6 +1,7 @@
 // Writing a page that has been measured: each paragraph replaced or as typed, and the breaks between them.
 use crate::breaks::break_end;
 use crate::breaks::next_break;
+use latex2mathml::Manner;
 use latex2mathml::replace::write_replacement;
 use text::put::put;
 use token::table::Table;
@@ -15,6 +16,7 @@ ghost use Rattle.page.specs.Marks.{Marked};
 
 // Writes a paragraph at a place as it comes out: replaced, or as typed.
 fn write_paragraph(
+    manner: Manner,
     p: &[u8],
     store: &mut [u8],
     work: &mut [u8],
@@ -23,17 +25,18 @@ fn write_paragraph(
     mark: u8,
     table: &Table,
 ) -> usize
-    requires { ⌜ (mark ≡ left (length (now store)) (length (now work)) (now p)) × Room true (now out) at (length (shown (length (now store)) (length (now work)) (now p))) × (now table ≡ rows) ⌝ }
-    ensures { λ r. ⌜ Puts true (now (out .entry)) (now (out .exit)) at (shown (length (now (store .entry))) (length (now (work .entry))) (now (p .entry))) r ⌝ }
+    requires { ⌜ (mark ≡ left manner (length (now store)) (length (now work)) (now p)) × Room true (now out) at (length (shown manner (length (now store)) (length (now work)) (now p))) × (now table ≡ rows) ⌝ }
+    ensures { λ r. ⌜ Puts true (now (out .entry)) (now (out .exit)) at (shown manner (length (now (store .entry))) (length (now (work .entry))) (now (p .entry))) r ⌝ }
 {
     if mark == 0 {
-        return write_replacement(p, store, work, out, at, table);
+        return write_replacement(manner, p, store, work, out, at, table);
     }
     put(p, out, at, true)
 }
 
 // Writes each paragraph in turn and copies the breaks between them.
 pub fn write_page(
+    manner: Manner,
     document: &[u8],
     store: &mut [u8],
     work: &mut [u8],
@@ -41,15 +44,24 @@ pub fn write_page(
     left: &[u8],
     table: &Table,
 ) -> usize
-    requires { ⌜ Marked (now document) (length (now store)) (length (now work)) (now left) × Room true (now out) 0 (length (shownAll (length (now store)) (length (now work)) (pieces (now document)))) × (now table ≡ rows) ⌝ }
-    ensures { λ r. ⌜ Puts true (now (out .entry)) (now (out .exit)) 0 (shownAll (length (now (store .entry))) (length (now (work .entry))) (pieces (now (document .entry)))) r ⌝ }
+    requires { ⌜ Marked manner (now document) (length (now store)) (length (now work)) (now left) × Room true (now out) 0 (length (shownAll manner (length (now store)) (length (now work)) (pieces (now document)))) × (now table ≡ rows) ⌝ }
+    ensures { λ r. ⌜ Puts true (now (out .entry)) (now (out .exit)) 0 (shownAll manner (length (now (store .entry))) (length (now (work .entry))) (pieces (now (document .entry)))) r ⌝ }
 {
     let mut from: usize = 0;
     let mut at: usize = 0;
     let mut k: usize = 0;
     loop {
         let e = next_break(document, from);
-        at = write_paragraph(&document[from..e], store, work, out, at, left[k], table);
+        at = write_paragraph(
+            manner,
+            &document[from..e],
+            store,
+            work,
+            out,
+            at,
+            left[k],
+            table,
+        );
         if e == document.len() {
             return at;
         }

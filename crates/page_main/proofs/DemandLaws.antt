@@ -5,6 +5,7 @@ use mathlib.Core.List.{List}
 use Prim.Native.Nat.{ℕ}
 use lib.ListN.{length, drop, replicate, length-replicate}
 use lib.Seq.{take-at}
+use Rattle.latex2mathml.specs.Manner.{old}
 use Rattle.latex2mathml.specs.Written.{over}
 use Rattle.page.specs.declared.PageAnswer.{PageAnswer}
 use Rattle.page.specs.Page.{Paged, page, outputOf}
@@ -20,7 +21,7 @@ use Rattle.page_main.proofs.ProgramLaws.{accepted-page}
 -- over any output buffer of the program's size
 module _ (o : List ℕ) (long : length o ≡ 65536) where
   abbrev runOf : List ℕ → Run
-  runOf document = ran document 61440 65536 o (over (outputOf (page document 61440 65536 (length o))) o) refl
+  runOf document = ran old document 61440 65536 o (over (outputOf (page old document 61440 65536 (length o))) o) refl
 
   written : (document : List ℕ) (p : Paged) → Accepts document p → output (runOf document) ≡ program document
   unfolding output answerLength outputOf over
@@ -30,18 +31,18 @@ module _ (o : List ℕ) (long : length o ≡ 65536) where
   not-refused : (document : List ℕ) (p : Paged) → Accepts document p → runOf document .answer ≡ PageAnswer.Accepted (length (p .output)) (p .paragraphs) (p .left)
   not-refused document p is = rw (long, is)
 
-  one-document : (document : List ℕ) (p : Paged) → Accepts document p → OneRun document 61440 65536 (program document) (p .paragraphs) (p .left)
+  one-document : (document : List ℕ) (p : Paged) → Accepts document p → OneRun old document 61440 65536 (program document) (p .paragraphs) (p .left)
   one-document document p is =
       rw (← written document p is) (demand3 .oneRun (runOf document) _ (p .paragraphs) (p .left) (not-refused document p is))
 
   two-documents : (a b : List ℕ) (m n : Paged) → Accepts a m → Accepts b n → {p q : List ℕ} (d : DifferInParagraph a b p q)
-      → TwoRuns a b 61440 65536 d (program a) (program b)
+      → TwoRuns old a b 61440 65536 d (program a) (program b)
   two-documents a b m n e f d =
       rw (← written a m e, ← written b n f)
       (demand3 .twoRuns (runOf a) (runOf b)
       (length (m .output), m .paragraphs, m .left, not-refused a m e)
       (length (n .output), n .paragraphs, n .left, not-refused b n f)
-      (record { store = refl; work = refl; room = refl })
+      (record { manner = refl; store = refl; work = refl; room = refl })
       d)
 
 pub demand-of-program : DemandOfProgram

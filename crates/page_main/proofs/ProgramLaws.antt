@@ -14,6 +14,7 @@ use Rattle.text.proofs.Cases.{by-order}
 use Rattle.text.proofs.PutLaws.{puts-all}
 use Rattle.error.specs.declared.Refusal.{Refusal}
 use Rattle.error.specs.Numbers.{number}
+use Rattle.latex2mathml.specs.Manner.{old}
 use Rattle.latex2mathml.specs.Outcome.{Outcome, accepted, refused, numberOf}
 use Rattle.latex2mathml.specs.Written.{over}
 use Rattle.latex2mathml.proofs.OutcomeLaws.{number-range}
@@ -62,18 +63,18 @@ fronted document l o {n} {o′} is long kept e =
     rw long (record { inside = f .0; size = sym (length-take-le (length l) o′ (f .0)); written = f .1 ∙ sym is })
 
 -- a page that is accepted is what the program writes
-pub accepted-page : (document : List ℕ) (p : Paged) → page document 61440 65536 65536 ≡ accepted p → program document ≡ p .output
+pub accepted-page : (document : List ℕ) (p : Paged) → page old document 61440 65536 65536 ≡ accepted p → program document ≡ p .output
 unfolding program
 accepted-page document p is = rw (program, is)
 
-told-page : (document o : List ℕ) (want : Outcome Paged) {n : ℕ} {o′ : List ℕ} → page document 61440 65536 65536 ≡ want → 0 ≡ numberOf want
+told-page : (document o : List ℕ) (want : Outcome Paged) {n : ℕ} {o′ : List ℕ} → page old document 61440 65536 65536 ≡ want → 0 ≡ numberOf want
     → n ≡ length (outputOf want) → length o′ ≡ length o → o′ ≡ over (outputOf want) o → Answers document n o′
 unfolding numberOf outputOf
 told-page document o (accepted p) is none long kept f = fronted document (p .output) o (accepted-page document p is) long kept f
 told-page document o (refused r) is none long kept f = absurd (omega (arith, number-range r))
 
 -- for one that is refused it writes the line with its number
-refused-page : (document : List ℕ) (want : Outcome Paged) (r : Refusal) → page document 61440 65536 65536 ≡ want
+refused-page : (document : List ℕ) (want : Outcome Paged) (r : Refusal) → page old document 61440 65536 65536 ≡ want
     → number r ≡ numberOf want → program document ≡ refusal r
 unfolding numberOf program refusal
 refused-page document (accepted p) r is e = absurd (omega (arith, number-range r))
@@ -81,13 +82,13 @@ refused-page document (refused q) r is e = rw (program, is) (rw (sym e))
 
 -- the two ways through the program, over an output of its size that keeps its length
 module _ {document o o′ : List ℕ} (long : 65536 ≡ length o) (kept : length o′ ≡ length o) where
-  pub answer-accepts : {n p q : ℕ} → Pages document 61440 65536 (PageAnswer.Accepted n p q) o o′ → Answers document n o′
+  pub answer-accepts : {n p q : ℕ} → Pages old document 61440 65536 (PageAnswer.Accepted n p q) o o′ → Answers document n o′
   unfolding answerNumber answerLength
-  answer-accepts g = told-page document o (page document 61440 65536 (length o)) (rw long) (g .number) (g .size) kept (g .output)
+  answer-accepts g = told-page document o (page old document 61440 65536 (length o)) (rw long) (g .number) (g .size) kept (g .output)
 
-  pub answer-refuses : {r : Refusal} {n : ℕ} {o″ : List ℕ} → length o″ ≡ length o′ → Pages document 61440 65536 (PageAnswer.Refused r) o o′
+  pub answer-refuses : {r : Refusal} {n : ℕ} {o″ : List ℕ} → length o″ ≡ length o′ → Pages old document 61440 65536 (PageAnswer.Refused r) o o′
       → Puts true o′ o″ 0 (refusal r) n → Answers document n o″
   unfolding over answerNumber
   answer-refuses {r} {n} same g p =
-      let e : program document ≡ refusal r = refused-page document (page document 61440 65536 (length o)) r (rw long) (g .number) in
+      let e : program document ≡ refusal r = refused-page document (page old document 61440 65536 (length o)) r (rw long) (g .number) in
       fronted document (refusal r) o′ e (omega (arith, p .place)) same (puts-all p)

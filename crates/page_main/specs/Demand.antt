@@ -3,6 +3,7 @@
 use mathlib.Core.Path.{_≡_}
 use mathlib.Core.List.{List}
 use Prim.Native.Nat.{ℕ}
+use Rattle.latex2mathml.specs.Manner.{old}
 use Rattle.latex2mathml.specs.Outcome.{accepted}
 use Rattle.page.specs.Page.{Paged, page}
 use Rattle.page.specs.Words.{DifferInParagraph}
@@ -11,9 +12,9 @@ use Rattle.page_main.specs.Program.{program}
 
 -- the program does not refuse the document, and its page has these counts
 abbrev pub Accepts : List ℕ → Paged → Type 0
-Accepts document p = page document 61440 65536 65536 ≡ accepted p
+Accepts document p = page old document 61440 65536 65536 ≡ accepted p
 
 pub record DemandOfProgram : Type 0 where
-  pub oneDocument : (document : List ℕ) (p : Paged) → Accepts document p → OneRun document 61440 65536 (program document) (p .paragraphs) (p .left)
+  pub oneDocument : (document : List ℕ) (p : Paged) → Accepts document p → OneRun old document 61440 65536 (program document) (p .paragraphs) (p .left)
   pub twoDocuments : (a b : List ℕ) (m n : Paged) → Accepts a m → Accepts b n → {p q : List ℕ} (d : DifferInParagraph a b p q)
-      → TwoRuns a b 61440 65536 d (program a) (program b)
+      → TwoRuns old a b 61440 65536 d (program a) (program b)

@@ -10,6 +10,7 @@ use lib.ListN.{length, take}
 use Rattle.text.specs.Text.{bytes}
 use Rattle.error.specs.declared.Refusal.{Refusal}
 use Rattle.error.specs.Numbers.{number}
+use Rattle.latex2mathml.specs.Manner.{old}
 use Rattle.latex2mathml.specs.Outcome.{accepted, refused, documentLimit}
 use Rattle.page.specs.Page.{page}
 
@@ -31,7 +32,7 @@ refusal r = bytes "refused " ++ decimal (number r) ++ bytes "\n"
 
 -- the page, with the sizes that the program lends, or the line of its refusal
 unfoldable pub program : List ℕ → List ℕ
-program document = elim (page document 61440 65536 65536) [ accepted p ↦ p .output | refused r ↦ refusal r ]
+program document = elim (page old document 61440 65536 65536) [ accepted p ↦ p .output | refused r ↦ refusal r ]
 
 -- the first n bytes of the output o are what the program writes for the document
 pub record Answers (document : List ℕ) (n : ℕ) (o : List ℕ) : Type 0 where

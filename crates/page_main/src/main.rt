@@ -1,10 +1,12 @@
-// The page program: standard input is a document, and standard output its page, or a line with the number of the refusal.
+// The page program: standard input is a document, and standard output its page in the old dialect, or a line with the number of the refusal.
 use error::Refusal;
+use latex2mathml::Manner;
 use latex2mathml::number;
 use libc::STDIN_FILENO;
 use libc::STDOUT_FILENO;
 use page::PageAnswer;
 use page::page;
+use text::Dialect;
 use text::put::put;
 ghost use mathlib.Core.Path.{_≡_};
 ghost use Prim.Native.Nat.{_≤_, _<_};
@@ -42,7 +44,10 @@ fn answer(document: &[u8], out: &mut [u8; 65536]) -> usize
 {
     let mut store = [0u8; 61440];
     let mut work = [0u8; 65536];
-    match page(document, &mut store, &mut work, out) {
+    let manner = Manner {
+        dialect: Dialect::Old,
+    };
+    match page(manner, document, &mut store, &mut work, out) {
         PageAnswer::Accepted(n, _, _) => n,
         PageAnswer::Refused(r) => put_refusal(r, out),
     }

@@ -7,6 +7,8 @@ use mathlib.Core.List.{List}
 use Prim.Native.Nat.{ℕ}
 use lib.ListN.{length, take}
 use Rattle.attribute.specs.declared.DisplayStyle.{DisplayStyle}
+use Rattle.latex2mathml.specs.declared.Manner.{Manner}
+use Rattle.latex2mathml.specs.Manner.{old, strict}
 use Rattle.latex2mathml.specs.Outcome.{Outcome, numberOf, bytesOf}
 use Rattle.latex2mathml.specs.Replace.{Replaced}
 use Rattle.latex2mathml.specs.Written.{over}
@@ -16,6 +18,11 @@ use Rattle.page.specs.Page.{Paged, page, outputOf, paragraphsOf, leftOf}
 unfoldable pub styleOf : Bool → DisplayStyle
 styleOf true = DisplayStyle.Block
 styleOf false = DisplayStyle.Inline
+
+-- strict or old
+abbrev pub mannerOf : Bool → Manner
+mannerOf true = strict
+mannerOf false = old
 
 -- body translation returns n and the length l, and the output that was o is o′
 pub record TranslateCall (want : Outcome (List ℕ)) (n l : ℕ) (o o′ : List ℕ) : Type 0 where
@@ -38,8 +45,10 @@ pub record PageCall (want : Outcome Paged) (n l p q : ℕ) (o o′ : List ℕ) :
   pub left : q ≡ leftOf want
   pub output : o′ ≡ over (outputOf want) o
 
--- one call of `latex_page`: what it was lent, what it returned and wrote, and the function's promise of it
+-- one call of `latex_page_in`, or of `latex_page`, which is not strict: what it was lent, what it returned and wrote, and the function's promise
+-- of it
 pub record Call : Type 0 where
+  pub strict : Bool
   pub document : List ℕ
   pub store : ℕ
   pub work : ℕ
@@ -49,7 +58,7 @@ pub record Call : Type 0 where
   pub size : ℕ
   pub paragraphs : ℕ
   pub left : ℕ
-  pub promise : PageCall (page document store work (length entry)) number size paragraphs left entry exit
+  pub promise : PageCall (page (mannerOf strict) document store work (length entry)) number size paragraphs left entry exit
 
 -- its output: the buffer's first bytes, as many as the size that was written
 unfoldable pub outputOfCall : Call → List ℕ

@@ -21,7 +21,7 @@ use Rattle.token.specs.declared.Token.{Token}
 use Rattle.token.specs.declared.Token.the-variants.{EOF, Begin, End, Ampersand, NewLine, Left, Right, Middle, Paren, LBrace, RBrace, Frac, Underscore, Circumflex, Binom, Overset, Underset, Overbrace, Underbrace, Sqrt, Integral, Lim, Space, Style, Big, Over, Under, Operator, BigOp, Letter, Number, Function, OperatorName, Slashed, Text, Command}
 use Rattle.token.specs.Spell.{Arm, spells, first}
 use Rattle.token.specs.Arms.{arms}
-use Rattle.token.specs.Command.{fromCommand, actsOnADigit}
+use Rattle.token.specs.Command.{ownArms, fromCommand, actsOnADigit}
 use Rattle.token.proofs.Token.{the-type}
 use Rattle.lexer.specs.Lex.{isDigit, skipWhitespace, readNumber, nameLength, readCommand, numberAt, punctuation, letter, ofCharacter, assigns, tokenAt, nextToken}
 use Rattle.lexer.proofs.NextLaws.{next-read, token-spans, next-spans}
@@ -104,8 +104,8 @@ spells-length (L._∷_ n s) (c ∷ t) e = ap suc (spells-length s t (both (eqb n
 abbrev arm-fits : Arm Token → Bool
 arm-fits arm = fits (suc (chars (arm .name))) (arm .gives)
 
-all-arms : every arm-fits arms ≡ true
-unfolding arms least
+all-arms : every arm-fits ownArms ≡ true
+unfolding arms ownArms least
 all-arms = refl
 
 -- so whatever arm a name finds, its token is wide enough
@@ -120,7 +120,7 @@ first-wide n s other w (L._∷_ arm rest) e =
 
 command-wide : (n : ℕ) (s : List ℕ) (a e : ℕ) → a ≤ e → e ≤ n → Wide n (suc (length s)) (fromCommand s (Command a e))
 unfolding fromCommand least
-command-wide n s a e low high = first-wide n s (Command a e) (record { enough = omega arith; places = (low, high) }) arms all-arms
+command-wide n s a e low high = first-wide n s (Command a e) (record { enough = omega arith; places = (low, high) }) ownArms all-arms
 
 -- ---- characters: one test of the punctuation
 

@@ -10,6 +10,7 @@ use lib.ListN.{length, getD, List·getD-eq-default}
 use Rattle.text.proofs.Cases.{never, by-order}
 use Rattle.text.proofs.Tabled.{tab, each}
 use Rattle.text.specs.Examples.{text-opens}
+use Rattle.text.specs.declared.Dialect.{Dialect}
 use Rattle.attribute.specs.declared.ColumnAlign.{ColumnAlign}
 use Rattle.attribute.specs.Codes.{alignOf}
 use Rattle.ast.specs.declared.Leaf.{Leaf}
@@ -28,9 +29,10 @@ use Rattle.ast.specs.Inside.{ShapeInside}
 use Rattle.ast.specs.Sum.{Weigh, marks, markSum, cells, Chain, shapeAt, fateAt, treeSum, treeSums, partSum, ownSum, ownTaken, addedBy, takenBy, added, taken, storeSum}
 use Rattle.ast.proofs.CellLaws.{mark-small}
 use Rattle.ast.proofs.SumLaws.{added-all, store-sum}
-use Rattle.markup.specs.Print.{atPlace, cell, cellLeaf, parseError, printLeaf, print, printAll}
+use Rattle.markup.specs.Print.{atPlace, cell, cellLeaf, printLeaf, print, printAll}
 use Rattle.markup.specs.Own.{under, ownText, own, errorOf, ownErrors, errors}
 use Rattle.markup.proofs.OwnLaws.{print-own, print-all-own}
+use Rattle.markup.proofs.PrintLaws.{error-ampersand, error-new-line}
 use Rattle.markup.proofs.ShortLaws.{most, short}
 use Rattle.markup.specs.declared.Place.{Place}
 use Rattle.print.specs.declared.measure.Sums.{Sums}
@@ -89,9 +91,12 @@ marks-few amp line st g h (suc n) a =
     let y = marks-few amp line st g h n (recordAt st a .next) in
     omega arith
 
-length-cells : (s st : List ℕ) (n a : ℕ) → (cells (own s .cell) st n a ≡ 11 * cells (marks 1 0) st n a + 22 * cells (marks 0 1) st n a) × (cells (own s .plain) st n a ≡ 39 * cells (marks 1 0) st n a + 37 * cells (marks 0 1) st n a)
-unfolding text-opens own ownText atPlace cell cellLeaf printLeaf parseError
-length-cells s st n a = (cells-of (own s .cell) st n a, cells-of (own s .plain) st n a)
+length-cells : (d : Dialect) (s st : List ℕ) (n a : ℕ) → (cells (own d s .cell) st n a ≡ 11 * cells (marks 1 0) st n a + 22 * cells (marks 0 1) st n a) × (cells (own d s .plain) st n a ≡ 39 * cells (marks 1 0) st n a + 37 * cells (marks 0 1) st n a)
+unfolding text-opens own ownText atPlace cell cellLeaf printLeaf
+length-cells d s st n a =
+    let ampersand : own d s .plain Leaf.Ampersand ≡ 39 = rw (error-ampersand d) refl in
+    let line : own d s .plain Leaf.NewLine ≡ 37 = rw (error-new-line d) refl in
+    (cells-of (own d s .cell) st n a, cells-of (own d s .plain) st n a ∙ rw (ampersand, line))
 
 error-cells : (st : List ℕ) (n a : ℕ) → (cells (errors .cell) st n a ≡ 0) × (cells (errors .plain) st n a ≡ cells (marks 1 0) st n a + cells (marks 0 1) st n a)
 unfolding errors
@@ -102,72 +107,72 @@ error-cells st n a =
 
 -- ---- no record adds much
 
-plain-small : (s : List ℕ) (l : Leaf) → own s .plain l ≤ most (length s)
+plain-small : (d : Dialect) (s : List ℕ) (l : Leaf) → own d s .plain l ≤ most (length s)
 unfolding treeSum size
-plain-small s l =
-    let a = print-own s (leaf l) in
-    let b = short s (leaf l) in
+plain-small d s l =
+    let a = print-own d s (leaf l) in
+    let b = short d s (leaf l) in
     omega arith
 
-slashed-small : (s : List ℕ) (l : Leaf) → own s .slashed l ≤ 2 * most (length s)
+slashed-small : (d : Dialect) (s : List ℕ) (l : Leaf) → own d s .slashed l ≤ 2 * most (length s)
 unfolding treeSum size
-slashed-small s l =
-    let a = print-own s (one One.Slashed (leaf l)) in
-    let b = short s (one One.Slashed (leaf l)) in
+slashed-small d s l =
+    let a = print-own d s (one One.Slashed (leaf l)) in
+    let b = short d s (one One.Slashed (leaf l)) in
     omega arith
 
-leaf-around : (s : List ℕ) (l : Leaf) → own s .around (Shape.Leaf l) ≤ 4 * most (length s)
+leaf-around : (d : Dialect) (s : List ℕ) (l : Leaf) → own d s .around (Shape.Leaf l) ≤ 4 * most (length s)
 unfolding own
-leaf-around s l = let x = plain-small s l in omega arith
+leaf-around d s l = let x = plain-small d s l in omega arith
 
-row-around : (s : List ℕ) (n : ℕ) → own s .around (Shape.Row n) ≡ own s .around (Shape.Row 0)
+row-around : (d : Dialect) (s : List ℕ) (n : ℕ) → own d s .around (Shape.Row n) ≡ own d s .around (Shape.Row 0)
 unfolding own ownText
-row-around s n = refl
+row-around d s n = refl
 
-matrix-around : (s : List ℕ) (align : ColumnAlign) (n : ℕ) → own s .around (Shape.Matrix align n) ≡ own s .around (Shape.Matrix align 0)
+matrix-around : (d : Dialect) (s : List ℕ) (align : ColumnAlign) (n : ℕ) → own d s .around (Shape.Matrix align n) ≡ own d s .around (Shape.Matrix align 0)
 unfolding own ownText
-matrix-around s align n = refl
+matrix-around d s align n = refl
 
-around-small : (s : List ℕ) (k : Shape) → own s .around k ≤ 4 * most (length s)
+around-small : (d : Dialect) (s : List ℕ) (k : Shape) → own d s .around k ≤ 4 * most (length s)
 unfolding treeSum size count
-around-small s (Shape.Leaf l) = leaf-around s l
-around-small s (Shape.One k) =
-    let a = print-own s (one k (row empty)) in
-    let b = short s (one k (row empty)) in
+around-small d s (Shape.Leaf l) = leaf-around d s l
+around-small d s (Shape.One k) =
+    let a = print-own d s (one k (row empty)) in
+    let b = short d s (one k (row empty)) in
     omega arith
-around-small s (Shape.Two k) =
-    let a = print-own s (two k (row empty) (row empty)) in
-    let b = short s (two k (row empty) (row empty)) in
+around-small d s (Shape.Two k) =
+    let a = print-own d s (two k (row empty) (row empty)) in
+    let b = short d s (two k (row empty) (row empty)) in
     omega arith
-around-small s (Shape.Three k) =
-    let a = print-own s (three k (row empty) (row empty) (row empty)) in
-    let b = short s (three k (row empty) (row empty) (row empty)) in
+around-small d s (Shape.Three k) =
+    let a = print-own d s (three k (row empty) (row empty) (row empty)) in
+    let b = short d s (three k (row empty) (row empty) (row empty)) in
     omega arith
-around-small s (Shape.Row n) =
-    let a = print-own s (row empty) in
-    let b = short s (row empty) in
-    let c = row-around s n in
+around-small d s (Shape.Row n) =
+    let a = print-own d s (row empty) in
+    let b = short d s (row empty) in
+    let c = row-around d s n in
     omega arith
-around-small s (Shape.Matrix align n) =
-    let a = print-own s (matrix align empty) in
-    let b = short s (matrix align empty) in
-    let c = matrix-around s align n in
+around-small d s (Shape.Matrix align n) =
+    let a = print-own d s (matrix align empty) in
+    let b = short d s (matrix align empty) in
+    let c = matrix-around d s align n in
     omega arith
 
 -- plain or under a slash
-leaf-most : (s : List ℕ) (b : Bool) (l : Leaf) → length (ownText (under b) s (Shape.Leaf l)) ≤ 4 * most (length s)
+leaf-most : (d : Dialect) (s : List ℕ) (b : Bool) (l : Leaf) → length (ownText d (under b) s (Shape.Leaf l)) ≤ 4 * most (length s)
 unfolding own
-leaf-most s true l = let x = slashed-small s l in omega arith
-leaf-most s false l = let x = plain-small s l in omega arith
+leaf-most d s true l = let x = slashed-small d s l in omega arith
+leaf-most d s false l = let x = plain-small d s l in omega arith
 
-own-most : (s : List ℕ) (b : Bool) (k : Shape) → length (ownText (under b) s k) ≤ 4 * most (length s)
+own-most : (d : Dialect) (s : List ℕ) (b : Bool) (k : Shape) → length (ownText d (under b) s k) ≤ 4 * most (length s)
 unfolding own ownText
-own-most s b (Shape.Leaf l) = leaf-most s b l
-own-most s b (Shape.One k) = around-small s (Shape.One k)
-own-most s b (Shape.Two k) = around-small s (Shape.Two k)
-own-most s b (Shape.Three k) = around-small s (Shape.Three k)
-own-most s b (Shape.Row n) = around-small s (Shape.Row n)
-own-most s b (Shape.Matrix align n) = around-small s (Shape.Matrix align n)
+own-most d s b (Shape.Leaf l) = leaf-most d s b l
+own-most d s b (Shape.One k) = around-small d s (Shape.One k)
+own-most d s b (Shape.Two k) = around-small d s (Shape.Two k)
+own-most d s b (Shape.Three k) = around-small d s (Shape.Three k)
+own-most d s b (Shape.Row n) = around-small d s (Shape.Row n)
+own-most d s b (Shape.Matrix align n) = around-small d s (Shape.Matrix align n)
 
 leaf-few : (l : Leaf) → errorOf l ≤ 1
 leaf-few (Leaf.Number a e) = zero-le
@@ -186,30 +191,30 @@ leaf-few (Leaf.Undefined u) = omega arith
 
 -- ---- what a record adds that is not dropped, and what it takes back
 
-module _ (s st : List ℕ) where
+module _ (d : Dialect) (s st : List ℕ) where
   abbrev A : Shape → ℕ → ℕ
   A k a = marksIn (marks 1 0) st k a
 
   abbrev L : Shape → ℕ → ℕ
   L k a = marksIn (marks 0 1) st k a
 
-  own-length : (b : Bool) (f : Leaf → ℕ) → ((l : Leaf) → f l ≡ length (ownText (under b) s (Shape.Leaf l))) → (k : Shape) (a : ℕ)
-      → ownSum (own s) f st k a ≡ length (ownText (under b) s k) + (11 * A k a + 22 * L k a)
+  own-length : (b : Bool) (f : Leaf → ℕ) → ((l : Leaf) → f l ≡ length (ownText d (under b) s (Shape.Leaf l))) → (k : Shape) (a : ℕ)
+      → ownSum (own d s) f st k a ≡ length (ownText d (under b) s k) + (11 * A k a + 22 * L k a)
   unfolding own ownText
   own-length b f h (Shape.Leaf l) a = let x = h l in omega arith
   own-length b f h (Shape.One k) a = omega arith
   own-length b f h (Shape.Two k) a = omega arith
   own-length b f h (Shape.Three k) a = omega arith
   own-length b f h (Shape.Row c) a = omega arith
-  own-length b f h (Shape.Matrix align c) a = let x = length-cells s st c a .0 in omega arith
+  own-length b f h (Shape.Matrix align c) a = let x = length-cells d s st c a .0 in omega arith
 
-  own-back : (k : Shape) (a : ℕ) → ownTaken (own s) st k a ≡ 39 * A k a + 37 * L k a
+  own-back : (k : Shape) (a : ℕ) → ownTaken (own d s) st k a ≡ 39 * A k a + 37 * L k a
   own-back (Shape.Leaf l) a = refl
   own-back (Shape.One k) a = refl
   own-back (Shape.Two k) a = refl
   own-back (Shape.Three k) a = refl
   own-back (Shape.Row c) a = refl
-  own-back (Shape.Matrix align c) a = length-cells s st c a .1
+  own-back (Shape.Matrix align c) a = length-cells d s st c a .1
 
   error-own : (f : Leaf → ℕ) → ((l : Leaf) → f l ≡ errorOf l) → (k : Shape) (a : ℕ) → ownSum errors f st k a ≡ ownErrors k
   unfolding errors
@@ -230,38 +235,38 @@ module _ (s st : List ℕ) where
 
   -- the four numbers of the record at j
   record Adds (f : Fate) (j n e x y : ℕ) : Type 0 where
-    length-more : addedBy (own s) st f j ≡ n + (11 * x + 22 * y)
-    length-less : takenBy (own s) st f j ≡ 39 * x + 37 * y
+    length-more : addedBy (own d s) st f j ≡ n + (11 * x + 22 * y)
+    length-less : takenBy (own d s) st f j ≡ 39 * x + 37 * y
     errors-more : addedBy errors st f j ≡ e
     errors-less : takenBy errors st f j ≡ x + y
 
   adds : (f : Fate) (j : ℕ) → isDropped f ≡ false
-      → Adds f j (length (ownText (under (isSlashed f)) s (shapeAt st j))) (ownErrors (shapeAt st j)) (A (shapeAt st j) (recordAt st j .a)) (L (shapeAt st j) (recordAt st j .a))
+      → Adds f j (length (ownText d (under (isSlashed f)) s (shapeAt st j))) (ownErrors (shapeAt st j)) (A (shapeAt st j) (recordAt st j .a)) (L (shapeAt st j) (recordAt st j .a))
   unfolding own errors
-  adds Fate.Counted j d =
+  adds Fate.Counted j held =
       record {
-        length-more = own-length false (own s .plain) (λ l. refl) (shapeAt st j) (recordAt st j .a);
+        length-more = own-length false (own d s .plain) (λ l. refl) (shapeAt st j) (recordAt st j .a);
         length-less = own-back (shapeAt st j) (recordAt st j .a);
         errors-more = error-own (errors .plain) (λ l. refl) (shapeAt st j) (recordAt st j .a);
         errors-less = error-back (shapeAt st j) (recordAt st j .a);
       }
-  adds Fate.Slashed j d =
+  adds Fate.Slashed j held =
       record {
-        length-more = own-length true (own s .slashed) (λ l. refl) (shapeAt st j) (recordAt st j .a);
+        length-more = own-length true (own d s .slashed) (λ l. refl) (shapeAt st j) (recordAt st j .a);
         length-less = own-back (shapeAt st j) (recordAt st j .a);
         errors-more = error-own (errors .slashed) (λ l. refl) (shapeAt st j) (recordAt st j .a);
         errors-less = error-back (shapeAt st j) (recordAt st j .a);
       }
-  adds Fate.Dropped j d = never cc
+  adds Fate.Dropped j held = never cc
 
   adds-nothing : (f : Fate) (j : ℕ) → isDropped f ≡ true → Adds f j 0 0 0 0
-  adds-nothing Fate.Counted j d = never cc
-  adds-nothing Fate.Slashed j d = never cc
-  adds-nothing Fate.Dropped j d = record { length-more = refl; length-less = refl; errors-more = refl; errors-less = refl }
+  adds-nothing Fate.Counted j gone = never cc
+  adds-nothing Fate.Slashed j gone = never cc
+  adds-nothing Fate.Dropped j gone = record { length-more = refl; length-less = refl; errors-more = refl; errors-less = refl }
 
   -- ---- the loop: the records before k are added
   module _ (top : ℕ) where
-    pub summed-none : Summed s st top 0 (record { length = 0; errors = 0; ampersands = 0; lines = 0 })
+    pub summed-none : Summed d s st top 0 (record { length = 0; errors = 0; ampersands = 0; lines = 0 })
     unfolding added taken
     summed-none =
         record {
@@ -275,10 +280,10 @@ module _ (s st : List ℕ) where
           marks-small = zero-le;
         }
 
-    summed-more : (k : ℕ) (sums : Sums) {n e x y : ℕ} → Summed s st top k sums → k < top → Adds (fateAt st top k) k n e x y → n ≤ 33554432 → e ≤ 1 → x + y ≤ 33554432
-        → Summed s st top (k + 1) (record { length = sums .length + n; errors = sums .errors + e; ampersands = sums .ampersands + x; lines = sums .lines + y })
+    summed-more : (k : ℕ) (sums : Sums) {n e x y : ℕ} → Summed d s st top k sums → k < top → Adds (fateAt st top k) k n e x y → n ≤ 33554432 → e ≤ 1 → x + y ≤ 33554432
+        → Summed d s st top (k + 1) (record { length = sums .length + n; errors = sums .errors + e; ampersands = sums .ampersands + x; lines = sums .lines + y })
     unfolding added taken
-    summed-more k sums {n} {e} {x} {y} g lt d bn be bm =
+    summed-more k sums {n} {e} {x} {y} g lt a bn be bm =
         let next : suc k ≡ k + 1 = omega arith in
         let g1 = g .length-more in
         let g2 = g .length-less in
@@ -287,18 +292,18 @@ module _ (s st : List ℕ) where
         let g5 = g .length-small in
         let g6 = g .errors-small in
         let g7 = g .marks-small in
-        let d1 = d .length-more in
-        let d2 = d .length-less in
-        let d3 = d .errors-more in
-        let d4 = d .errors-less in
-        let p1 : sums .length + n + (11 * (sums .ampersands + x) + 22 * (sums .lines + y)) ≡ added (own s) st top (suc k) = omega arith in
-        let p2 : 39 * (sums .ampersands + x) + 37 * (sums .lines + y) ≡ taken (own s) st top (suc k) = omega arith in
+        let d1 = a .length-more in
+        let d2 = a .length-less in
+        let d3 = a .errors-more in
+        let d4 = a .errors-less in
+        let p1 : sums .length + n + (11 * (sums .ampersands + x) + 22 * (sums .lines + y)) ≡ added (own d s) st top (suc k) = omega arith in
+        let p2 : 39 * (sums .ampersands + x) + 37 * (sums .lines + y) ≡ taken (own d s) st top (suc k) = omega arith in
         let p3 : sums .errors + e ≡ added errors st top (suc k) = omega arith in
         let p4 : sums .ampersands + x + (sums .lines + y) ≡ taken errors st top (suc k) = omega arith in
         record {
           in-store = omega arith;
-          length-more = p1 ∙ ap (λ j. added (own s) st top j) next;
-          length-less = p2 ∙ ap (λ j. taken (own s) st top j) next;
+          length-more = p1 ∙ ap (λ j. added (own d s) st top j) next;
+          length-less = p2 ∙ ap (λ j. taken (own d s) st top j) next;
           errors-more = p3 ∙ ap (λ j. added errors st top j) next;
           errors-less = p4 ∙ ap (λ j. taken errors st top j) next;
           length-small = omega arith;
@@ -334,14 +339,14 @@ errors-few (Shape.Three k) = zero-le
 errors-few (Shape.Row c) = zero-le
 errors-few (Shape.Matrix align c) = zero-le
 
-module _ {s st : List ℕ} {top k : ℕ} {sums : Sums} (h : Measurable s st top) (g : Summed s st top k sums) (lt : k < top) where
+module _ {d : Dialect} {s st : List ℕ} {top k : ℕ} {sums : Sums} (h : Measurable s st top) (g : Summed d s st top k sums) (lt : k < top) where
   fine-here : Fine (length s) st top (shapeAt st k) (recordAt st k .a)
   fine-here = all-fine (length s) st top (h .fits) (h .f) (h .p) (h .l) (h .nodes) (h .held) (h .inside) k lt
 
   -- a record that the finished tree does not hold is skipped
-  pub step-dropped : {f : Fate} → f ≡ fateAt st top k → isDropped f ≡ true → Summed s st top (k + 1) sums
-  step-dropped {f} e d =
-      let z = summed-more s st top k sums g lt (adds-nothing s st (fateAt st top k) k (rw e at d)) zero-le zero-le zero-le in
+  pub step-dropped : {f : Fate} → f ≡ fateAt st top k → isDropped f ≡ true → Summed d s st top (k + 1) sums
+  step-dropped {f} e gone =
+      let z = summed-more d s st top k sums g lt (adds-nothing d s st (fateAt st top k) k (rw e at gone)) zero-le zero-le zero-le in
       let z1 = z .length-more in
       let z2 = z .length-less in
       let z3 = z .errors-more in
@@ -360,7 +365,7 @@ module _ {s st : List ℕ} {top k : ℕ} {sums : Sums} (h : Measurable s st top)
         marks-small = omega arith;
       }
 
-  module _ {f : Fate} {q : Record} {v : Fields} (e : f ≡ fateAt st top k) (d : isDropped f ≡ false) (er : q ≡ recordAt st k) (ev : v ≡ fieldsOf q) where
+  module _ {f : Fate} {q : Record} {v : Fields} (e : f ≡ fateAt st top k) (held : isDropped f ≡ false) (er : q ≡ recordAt st k) (ev : v ≡ fieldsOf q) where
     shape-here : shapeOf v ≡ shapeAt st k
     unfolding shapeAt
     shape-here = ap (λ x. shapeOf x) ev ∙ ap (λ x. shapeOf (fieldsOf x)) er
@@ -368,11 +373,11 @@ module _ {s st : List ℕ} {top k : ℕ} {sums : Sums} (h : Measurable s st top)
     pub step-inside : ShapeInside (length s) (shapeOf v)
     step-inside = rw shape-here (fine-inside (length s) st top (shapeAt st k) (recordAt st k .a) fine-here)
 
-    pub own-small : (b : Bool) → length (ownText (under b) s (shapeOf v)) ≤ 4 * most (length s)
-    own-small b = own-most s b (shapeOf v)
+    pub own-small : (b : Bool) → length (ownText d (under b) s (shapeOf v)) ≤ 4 * most (length s)
+    own-small b = own-most d s b (shapeOf v)
 
     -- what it adds stays a number of the machine
-    pub step-small : {n : ℕ} → n ≡ length (ownText (under (isSlashed f)) s (shapeOf v)) → sums .length + n < 2 ^ 64
+    pub step-small : {n : ℕ} → n ≡ length (ownText d (under (isSlashed f)) s (shapeOf v)) → sums .length + n < 2 ^ 64
     step-small {n} en =
         let o = own-small (isSlashed f) in
         let short-body = h .short in
@@ -388,19 +393,19 @@ module _ {s st : List ℕ} {top k : ℕ} {sums : Sums} (h : Measurable s st top)
         omega arith
 
     -- the record is no matrix
-    pub step-plain : {n m : ℕ} → q .tag < 36 → n ≡ length (ownText (under (isSlashed f)) s (shapeOf v)) → m ≡ ownErrors (shapeOf v)
-        → Summed s st top (k + 1) (record { length = sums .length + n; errors = sums .errors + m; ampersands = sums .ampersands; lines = sums .lines })
+    pub step-plain : {n m : ℕ} → q .tag < 36 → n ≡ length (ownText d (under (isSlashed f)) s (shapeOf v)) → m ≡ ownErrors (shapeOf v)
+        → Summed d s st top (k + 1) (record { length = sums .length + n; errors = sums .errors + m; ampersands = sums .ampersands; lines = sums .lines })
     step-plain {n} {m} small en em =
         let short-body = h .short in
         let o = own-small (isSlashed f) in
-        let a = adds s st (fateAt st top k) k (rw e at d) in
+        let a = adds d s st (fateAt st top k) k (rw e at held) in
         let x : marksIn (marks 1 0) st (shapeAt st k) (recordAt st k .a) ≡ 0 = rw (← shape-here, ev) (no-matrix (marks 1 0) st q (recordAt st k .a) small) in
         let y : marksIn (marks 0 1) st (shapeAt st k) (recordAt st k .a) ≡ 0 = rw (← shape-here, ev) (no-matrix (marks 0 1) st q (recordAt st k .a) small) in
-        let n-is : length (ownText (under (isSlashed (fateAt st top k))) s (shapeAt st k)) ≡ n = rw (← shape-here, ← e) (sym en) in
+        let n-is : length (ownText d (under (isSlashed (fateAt st top k))) s (shapeAt st k)) ≡ n = rw (← shape-here, ← e) (sym en) in
         let m-is : ownErrors (shapeAt st k) ≡ m = rw (← shape-here) (sym em) in
         let few = errors-few (shapeOf v) in
-        let b : Adds s st (fateAt st top k) k n m 0 0 = rw (n-is, m-is, x, y) at a in
-        let z = summed-more s st top k sums g lt b (omega arith) (omega arith) zero-le in
+        let b : Adds d s st (fateAt st top k) k n m 0 0 = rw (n-is, m-is, x, y) at a in
+        let z = summed-more d s st top k sums g lt b (omega arith) (omega arith) zero-le in
         let z1 = z .length-more in
         let z2 = z .length-less in
         let z4 = z .errors-less in
@@ -446,28 +451,28 @@ module _ {s st : List ℕ} {top k : ℕ} {sums : Sums} (h : Measurable s st top)
           let few = h .few in
           omega (arith, marks-here 0 1 (omega arith) (omega arith) ey)
 
-      pub step-matrix : {n m x y : ℕ} → n ≡ length (ownText (under (isSlashed f)) s (shapeOf v)) → m ≡ ownErrors (shapeOf v)
+      pub step-matrix : {n m x y : ℕ} → n ≡ length (ownText d (under (isSlashed f)) s (shapeOf v)) → m ≡ ownErrors (shapeOf v)
           → x ≡ cells (marks 1 0) st (q .x) (q .a) → y ≡ cells (marks 0 1) st (q .x) (q .a)
-          → Summed s st top (k + 1) (record { length = sums .length + n; errors = sums .errors + m; ampersands = sums .ampersands + x; lines = sums .lines + y })
+          → Summed d s st top (k + 1) (record { length = sums .length + n; errors = sums .errors + m; ampersands = sums .ampersands + x; lines = sums .lines + y })
       step-matrix {n} {m} {x} {y} en em ex ey =
           let short-body = h .short in
           let o = own-small (isSlashed f) in
-          let a = adds s st (fateAt st top k) k (rw e at d) in
+          let a = adds d s st (fateAt st top k) k (rw e at held) in
           let x-is : marksIn (marks 1 0) st (shapeAt st k) (recordAt st k .a) ≡ x = rw (matrix-here, ← er) (sym ex) in
           let y-is : marksIn (marks 0 1) st (shapeAt st k) (recordAt st k .a) ≡ y = rw (matrix-here, ← er) (sym ey) in
-          let n-is : length (ownText (under (isSlashed (fateAt st top k))) s (shapeAt st k)) ≡ n = rw (← shape-here, ← e) (sym en) in
+          let n-is : length (ownText d (under (isSlashed (fateAt st top k))) s (shapeAt st k)) ≡ n = rw (← shape-here, ← e) (sym en) in
           let m-is : ownErrors (shapeAt st k) ≡ m = rw (← shape-here) (sym em) in
           let few = errors-few (shapeOf v) in
-          let b : Adds s st (fateAt st top k) k n m x y = rw (n-is, m-is, x-is, y-is) at a in
+          let b : Adds d s st (fateAt st top k) k n m x y = rw (n-is, m-is, x-is, y-is) at a in
           let px = marks-here 1 0 (omega arith) (omega arith) ex in
           let py = marks-here 0 1 (omega arith) (omega arith) ey in
-          summed-more s st top k sums g lt b (omega arith) (omega arith) (omega arith)
+          summed-more d s st top k sums g lt b (omega arith) (omega arith) (omega arith)
 
 -- behind the last record
-module _ {s st : List ℕ} {top : ℕ} {sums : Sums} (h : Measurable s st top) (g : Summed s st top top sums) where
+module _ {d : Dialect} {s st : List ℕ} {top : ℕ} {sums : Sums} (h : Measurable s st top) (g : Summed d s st top top sums) where
   pub all-length : 39 * sums .ampersands + 37 * sums .lines ≤ sums .length + (11 * sums .ampersands + 22 * sums .lines)
   all-length =
-      let a = added-all (own s) st top (h .f) (h .p) (h .l) (h .nodes) (h .held) in
+      let a = added-all (own d s) st top (h .f) (h .p) (h .l) (h .nodes) (h .held) in
       let b = g .length-more in
       let c = g .length-less in
       omega arith
@@ -487,7 +492,7 @@ module _ {s st : List ℕ} {top : ℕ} {sums : Sums} (h : Measurable s st top) (
       let b = g .marks-small in
       omega arith
 
-  pub length-sum : (sums .length + 11 * sums .ampersands + 22 * sums .lines) - (39 * sums .ampersands + 37 * sums .lines) ≡ storeSum (own s) st top
+  pub length-sum : (sums .length + 11 * sums .ampersands + 22 * sums .lines) - (39 * sums .ampersands + 37 * sums .lines) ≡ storeSum (own d s) st top
   unfolding storeSum
   length-sum =
       let a = g .length-more in
@@ -502,8 +507,8 @@ module _ {s st : List ℕ} {top : ℕ} {sums : Sums} (h : Measurable s st top) (
       omega arith
 
 -- whatever nodes fill the records, what is measured is the length of their markup, and the number of error texts along the tree
-pub measured : (s st : List ℕ) (top f p l : ℕ) (ns : Nodes) → holdsAll st 0 f p l top ns → storeSum (own s) st top ≡ length (printAll s ns)
-measured s st top f p l ns h = store-sum (own s) st top f p l ns h ∙ sym (print-all-own s ns)
+pub measured : (d : Dialect) (s st : List ℕ) (top f p l : ℕ) (ns : Nodes) → holdsAll st 0 f p l top ns → storeSum (own d s) st top ≡ length (printAll d s ns)
+measured d s st top f p l ns h = store-sum (own d s) st top f p l ns h ∙ sym (print-all-own d s ns)
 
 pub counted : (st : List ℕ) (top f p l : ℕ) (ns : Nodes) → holdsAll st 0 f p l top ns → storeSum errors st top ≡ treeSums errors ns
 counted st top f p l ns h = store-sum errors st top f p l ns h

@@ -6,6 +6,7 @@ use mathlib.Core.List.{List, _++_}
 use Prim.Native.Nat.{ℕ, suc, _-_, _<_}
 use native.Mathlib.Omega.{arith}
 use Rattle.text.specs.Put.{Puts}
+use Rattle.text.specs.declared.Dialect.{Dialect}
 use Rattle.text.proofs.PutLaws.{puts-nothing}
 use Rattle.ast.specs.Store.{recordAt}
 use Rattle.ast.specs.Tree.{Node, Nodes, empty, _then_}
@@ -19,15 +20,15 @@ use Rattle.print.proofs.PieceLaws.{Same, Like, able-like, prints-like, 
 abbrev FirstAt : List ℕ → List ℕ → ℕ → ℕ → ℕ → Node × Nodes → Type 0
 FirstAt s st left i n = Both (TreeAt s st left i) (NodesAt s st left (recordAt st i .next) (n - 1))
 
-abbrev firstText : List ℕ → Place → Node × Nodes → List ℕ
-firstText s place t = shown place s (t .0) ++ shownAll place s (t .1)
+abbrev firstText : Dialect → List ℕ → Place → Node × Nodes → List ℕ
+firstText d s place t = shown d place s (t .0) ++ shownAll d place s (t .1)
 
 -- some nodes are a first one and those behind it
-split : (s st : List ℕ) (left i n : ℕ) (place : Place) (ns : Nodes) → 0 < n → NodesAt s st left i n ns
-    → Same (FirstAt s st left i n) (firstText s place) (shownAll place s ns)
+split : (d : Dialect) (s st : List ℕ) (left i n : ℕ) (place : Place) (ns : Nodes) → 0 < n → NodesAt s st left i n ns
+    → Same (FirstAt s st left i n) (firstText d s place) (shownAll d place s ns)
 unfolding count shownAll
-split s st left i n place empty some h = let none = h .many in absurd (omega arith)
-split s st left i n place (t then ns) some h =
+split d s st left i n place empty some h = let none = h .many in absurd (omega arith)
+split d s st left i n place (t then ns) some h =
     let o = h .held in
     let near = h .near in
     let fits = h .fits in
@@ -51,36 +52,36 @@ split s st left i n place (t then ns) some h =
       same = refl;
     }
 
-like-first : {s st : List ℕ} {left i n : ℕ} (place : Place) → 0 < n → Like (NodesAt s st left i n) (shownAll place s) (FirstAt s st left i n) (firstText s place)
-like-first {s} {st} {left} {i} {n} place some = record { of = λ ns h. split s st left i n place ns some h }
+like-first : {s st : List ℕ} {left i n : ℕ} (d : Dialect) (place : Place) → 0 < n → Like (NodesAt s st left i n) (shownAll d place s) (FirstAt s st left i n) (firstText d s place)
+like-first {s} {st} {left} {i} {n} d place some = record { of = λ ns h. split d s st left i n place ns some h }
 
 -- no nodes are printed by doing nothing
-none : (s : List ℕ) (place : Place) (o : List ℕ) (at : ℕ) (ns : Nodes) → count ns ≡ 0 → Puts true o o at (shownAll place s ns) at
+none : (d : Dialect) (s : List ℕ) (place : Place) (o : List ℕ) (at : ℕ) (ns : Nodes) → count ns ≡ 0 → Puts true o o at (shownAll d place s ns) at
 unfolding count shownAll
-none s place o at empty e = puts-nothing true o at
-none s place o at (t then ns) e = absurd (omega arith)
+none d s place o at empty e = puts-nothing true o at
+none d s place o at (t then ns) e = absurd (omega arith)
 
 -- of the n nodes from a on, those before i are printed and `todo` are left: they can be printed, and once they are, all are
-pub record Going (s st : List ℕ) (left : ℕ) (place : Place) (a n : ℕ) (o₀ : List ℕ) (at i todo : ℕ) (o : List ℕ) (end : ℕ) : Type 0 where
-  pub able : Printable (NodesAt s st left i todo) (shownAll place s) o end
-  pub finish : (o′ : List ℕ) (r : ℕ) → Prints (NodesAt s st left i todo) (shownAll place s) o o′ end r
-      → Prints (NodesAt s st left a n) (shownAll place s) o₀ o′ at r
+pub record Going (d : Dialect) (s st : List ℕ) (left : ℕ) (place : Place) (a n : ℕ) (o₀ : List ℕ) (at i todo : ℕ) (o : List ℕ) (end : ℕ) : Type 0 where
+  pub able : Printable (NodesAt s st left i todo) (shownAll d place s) o end
+  pub finish : (o′ : List ℕ) (r : ℕ) → Prints (NodesAt s st left i todo) (shownAll d place s) o o′ end r
+      → Prints (NodesAt s st left a n) (shownAll d place s) o₀ o′ at r
 
-module _ {s st : List ℕ} {left : ℕ} {place : Place} {a n : ℕ} {o : List ℕ} {at : ℕ} where
-  pub going-start : Printable (NodesAt s st left a n) (shownAll place s) o at → Going s st left place a n o at a n o at
+module _ {d : Dialect} {s st : List ℕ} {left : ℕ} {place : Place} {a n : ℕ} {o : List ℕ} {at : ℕ} where
+  pub going-start : Printable (NodesAt s st left a n) (shownAll d place s) o at → Going d s st left place a n o at a n o at
   going-start p = record { able = p; finish = λ o′ r q. q }
 
-module _ {s st : List ℕ} {left : ℕ} {place : Place} {a n : ℕ} {o₀ : List ℕ} {at i todo : ℕ} {o : List ℕ} {end : ℕ} (g : Going s st left place a n o₀ at i todo o end) where
-  pub going-node : 0 < todo → Printable (TreeAt s st left i) (shown place s) o end
-  going-node some = both-first (shown place s) (shownAll place s) (able-like (like-first place some) (g .able))
+module _ {d : Dialect} {s st : List ℕ} {left : ℕ} {place : Place} {a n : ℕ} {o₀ : List ℕ} {at i todo : ℕ} {o : List ℕ} {end : ℕ} (g : Going d s st left place a n o₀ at i todo o end) where
+  pub going-node : 0 < todo → Printable (TreeAt s st left i) (shown d place s) o end
+  going-node some = both-first (shown d place s) (shownAll d place s) (able-like (like-first d place some) (g .able))
 
-  pub going-next : {o₁ : List ℕ} {r₁ : ℕ} → 0 < todo → Prints (TreeAt s st left i) (shown place s) o o₁ end r₁
-      → Going s st left place a n o₀ at (recordAt st i .next) (todo - 1) o₁ r₁
+  pub going-next : {o₁ : List ℕ} {r₁ : ℕ} → 0 < todo → Prints (TreeAt s st left i) (shown d place s) o o₁ end r₁
+      → Going d s st left place a n o₀ at (recordAt st i .next) (todo - 1) o₁ r₁
   going-next some p = record {
-    able = both-next (shown place s) (shownAll place s) (able-like (like-first place some) (g .able)) p;
+    able = both-next (shown d place s) (shownAll d place s) (able-like (like-first d place some) (g .able)) p;
     finish = λ o′ r q.
-        g .finish o′ r (prints-like (like-first place some) (both-prints (shown place s) (shownAll place s) p q));
+        g .finish o′ r (prints-like (like-first d place some) (both-prints (shown d place s) (shownAll d place s) p q));
   }
 
-  pub going-done : todo ≡ 0 → Prints (NodesAt s st left a n) (shownAll place s) o₀ o at end
-  going-done e = g .finish o end (record { all = λ ns h room. none s place o end ns (h .many ∙ e) })
+  pub going-done : todo ≡ 0 → Prints (NodesAt s st left a n) (shownAll d place s) o₀ o at end
+  going-done e = g .finish o end (record { all = λ ns h room. none d s place o end ns (h .many ∙ e) })

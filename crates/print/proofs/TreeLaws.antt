@@ -6,6 +6,7 @@ use Prim.Native.Nat.{ℕ, _+_, _-_, _*_, _≤_, _<_}
 use native.Mathlib.Omega.{arith}
 use native.Mathlib.Nat.{le-refl, le-trans}
 use lib.ListN.{length}
+use Rattle.text.specs.declared.Dialect.{Dialect}
 use Rattle.ast.specs.declared.Record.{Record}
 use Rattle.ast.specs.declared.Shape.{Shape}
 use Rattle.ast.specs.Shape.{fieldsOf, shapeOf}
@@ -40,18 +41,18 @@ ContentAt s st left r (Shape.Row n) ns = NodesAt s st left (r .a) n ns
 ContentAt s st left r (Shape.Matrix align n) ns = NodesAt s st left (r .a) n ns
 
 -- the markup of the whole node
-abbrev pub contentText : List ℕ → Place → (k : Shape) → Content k → List ℕ
-contentText s place (Shape.Leaf l) u = shown place s (leaf l)
-contentText s place (Shape.One k) a = print s (one k a)
-contentText s place (Shape.Two k) t = print s (two k (t .0) (t .1))
-contentText s place (Shape.Three k) t = print s (three k (t .0) (t .1 .0) (t .1 .1))
-contentText s place (Shape.Row n) ns = print s (row ns)
-contentText s place (Shape.Matrix align n) ns = print s (matrix align ns)
+abbrev pub contentText : Dialect → List ℕ → Place → (k : Shape) → Content k → List ℕ
+contentText d s place (Shape.Leaf l) u = shown d place s (leaf l)
+contentText d s place (Shape.One k) a = print d s (one k a)
+contentText d s place (Shape.Two k) t = print d s (two k (t .0) (t .1))
+contentText d s place (Shape.Three k) t = print d s (three k (t .0) (t .1 .0) (t .1 .1))
+contentText d s place (Shape.Row n) ns = print d s (row ns)
+contentText d s place (Shape.Matrix align n) ns = print d s (matrix align ns)
 
 -- the content of a root of the kind k stands where the record at i says, and with it the tree t has its markup
-abbrev Stood : List ℕ → List ℕ → ℕ → ℕ → Place → Node → Shape → Type 0
-Stood s st left i place t k =
-    Same (ContentAt s st (left - 1) (recordAt st i) k) (contentText s place k) (shown place s t)
+abbrev Stood : Dialect → List ℕ → List ℕ → ℕ → ℕ → Place → Node → Shape → Type 0
+Stood d s st left i place t k =
+    Same (ContentAt s st (left - 1) (recordAt st i) k) (contentText d s place k) (shown d place s t)
 
 -- a part stands where the root's record says, below `left - 1`
 part-at : {s st : List ℕ} {left i j x : ℕ} (lo : ℕ) (t : Node) → i < left → i * 24 + 24 ≤ length st → j ≡ x → {u : ℕ} → u ≤ i → FillsTree st x t lo u
@@ -76,17 +77,17 @@ row-at {i} lo ns near fits {hi} le o inside = record {
 }
 
 -- the content of every tree stands so
-stood : (s st : List ℕ) (left i : ℕ) (place : Place) (t : Node) → TreeAt s st left i t → Stood s st left i place t (kindOf t)
+stood : (d : Dialect) (s st : List ℕ) (left i : ℕ) (place : Place) (t : Node) → TreeAt s st left i t → Stood d s st left i place t (kindOf t)
 unfolding shown atPlace slash cell
-stood s st left i place (leaf l) h = record { what = tt; there = h .inside; same = refl }
-stood s st left i place (one k a) h =
+stood d s st left i place (leaf l) h = record { what = tt; there = h .inside; same = refl }
+stood d s st left i place (one k a) h =
     let o = h .held in
     record {
       what = a;
       there = part-at (h .lo) a (h .near) (h .fits) (o .stands .a) (le-refl i) (o .part) (h .inside);
-      same = by-place (λ p. shown p s (one k a) ≡ print s (one k a)) place refl refl refl;
+      same = by-place (λ p. shown d p s (one k a) ≡ print d s (one k a)) place refl refl refl;
     }
-stood s st left i place (two k a b) h =
+stood d s st left i place (two k a b) h =
     let o = h .held in
     record {
       what = (a, b);
@@ -94,9 +95,9 @@ stood s st left i place (two k a b) h =
         first = beside-left (λ l u q le. part-at l a (h .near) (h .fits) (o .stands .a) le q (h .inside .0)) (λ l u q. tree-low st (o .y) l u b q) (o .parts);
         second = beside-left (λ l u q le. part-at l b (h .near) (h .fits) (o .stands .b) le q (h .inside .1)) (λ l u q. tree-low st (o .x) l u a q) (turned-round (o .parts));
       };
-      same = by-place (λ p. shown p s (two k a b) ≡ print s (two k a b)) place refl refl refl;
+      same = by-place (λ p. shown d p s (two k a b) ≡ print d s (two k a b)) place refl refl refl;
     }
-stood s st left i place (three k a b c) h =
+stood d s st left i place (three k a b c) h =
     let o = h .held in
     record {
       what = (a, (b, c));
@@ -107,26 +108,26 @@ stood s st left i place (three k a b c) h =
           second = beside-left (λ m v r le′. part-at m c (h .near) (h .fits) (o .stands .c) (le-trans le′ le) r (h .inside .2)) (λ m v r. tree-low st (o .y) m v b r) (turned-round q);
         }) (λ l u q. tree-low st (o .x) l u a q) (turned-round (o .parts));
       };
-      same = by-place (λ p. shown p s (three k a b c) ≡ print s (three k a b c)) place refl refl refl;
+      same = by-place (λ p. shown d p s (three k a b c) ≡ print d s (three k a b c)) place refl refl refl;
     }
-stood s st left i place (row ns) h =
+stood d s st left i place (row ns) h =
     record {
       what = ns;
       there = row-at (h .lo) ns (h .near) (h .fits) (le-refl i) (h .held) (h .inside);
-      same = by-place (λ p. shown p s (row ns) ≡ print s (row ns)) place refl refl refl;
+      same = by-place (λ p. shown d p s (row ns) ≡ print d s (row ns)) place refl refl refl;
     }
-stood s st left i place (matrix align ns) h =
+stood d s st left i place (matrix align ns) h =
     record {
       what = ns;
       there = row-at (h .lo) ns (h .near) (h .fits) (roof-below st (h .lo) (h .held .hi) i (h .held .roof)) (h .held .rowed) (h .inside);
-      same = by-place (λ p. shown p s (matrix align ns) ≡ print s (matrix align ns)) place refl refl refl;
+      same = by-place (λ p. shown d p s (matrix align ns) ≡ print d s (matrix align ns)) place refl refl refl;
     }
 
 -- whatever tree stands at i, its content is of the kind k that the record r there has
-pub of-kind : {s st : List ℕ} {left i : ℕ} {r : Record} {q : Shape} (place : Place) (k : Shape) → r ≡ recordAt st i → q ≡ shapeOf (fieldsOf r) → q ≡ k
-    → Like (TreeAt s st left i) (shown place s) (ContentAt s st (left - 1) r k) (contentText s place k)
-of-kind {s} {st} {left} {i} place k e f g = record {
+pub of-kind : {s st : List ℕ} {left i : ℕ} {r : Record} {q : Shape} (d : Dialect) (place : Place) (k : Shape) → r ≡ recordAt st i → q ≡ shapeOf (fieldsOf r) → q ≡ k
+    → Like (TreeAt s st left i) (shown d place s) (ContentAt s st (left - 1) r k) (contentText d s place k)
+of-kind {s} {st} {left} {i} d place k e f g = record {
   of = λ t h.
       let is : kindOf t ≡ k = sym (shape-held st (h .lo) i t (h .held)) ∙ ap (λ x. shapeOf (fieldsOf x)) (sym e) ∙ sym f ∙ g in
-      rw e (subst (Stood s st left i place t) is (stood s st left i place t h));
+      rw e (subst (Stood d s st left i place t) is (stood d s st left i place t h));
 }

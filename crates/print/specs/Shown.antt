@@ -6,6 +6,7 @@ use mathlib.Core.List.{List, [], _++_}
 use Prim.Native.Nat.{ℕ, _+_, _*_, _≤_, _<_}
 use lib.ListN.{length}
 use Rattle.text.specs.Put.{Room, Puts}
+use Rattle.text.specs.declared.Dialect.{Dialect}
 use Rattle.ast.specs.declared.One.{One}
 use Rattle.ast.specs.Tree.{Node, Nodes, empty, _then_}
 use Rattle.ast.specs.Held.{count, holds, holdsAll}
@@ -23,12 +24,12 @@ placeOf One.Slashed = Place.Slashed
 placeOf (One.Style d) = Place.Plain
 
 -- the markup of a node of the body s, and of nodes one behind the other
-unfoldable pub shown : Place → List ℕ → Node → List ℕ
-shown place s t = atPlace place t (print s t)
+unfoldable pub shown : Dialect → Place → List ℕ → Node → List ℕ
+shown d place s t = atPlace d place t (print d s t)
 
-unfoldable pub shownAll : Place → List ℕ → Nodes → List ℕ
-shownAll place s empty = []
-shownAll place s (t then ns) = shown place s t ++ shownAll place s ns
+unfoldable pub shownAll : Dialect → Place → List ℕ → Nodes → List ℕ
+shownAll d place s empty = []
+shownAll d place s (t then ns) = shown d place s t ++ shownAll d place s ns
 
 -- the tree t of the body s stands in the store at the index i, which is below `left`
 pub record TreeAt (s st : List ℕ) (left i : ℕ) (t : Node) : Type 0 where

@@ -6,6 +6,7 @@ use ast::sum::fate_at;
 use ast::sum::marks;
 use markup::lengths::own_errors;
 use markup::lengths::own_len;
+use text::Dialect;
 use token::table::Table;
 ghost use mathlib.Core.Path.{_≡_};
 ghost use Prim.Native.Nat.{_+_, _<_};
@@ -47,9 +48,17 @@ fn is_slashed(f: Fate) -> bool
 }
 
 // The sums with the record at k, which adds nothing where the finished tree does not hold it.
-fn add_at(s: &[u8], store: &[u8], top: usize, k: usize, sums: Sums, table: &Table) -> Sums
-    requires { ⌜ Measurable (now s) (now store) top × Summed (now s) (now store) top k sums × (k < top) × (now table ≡ rows) ⌝ }
-    ensures { λ r. ⌜ Summed (now (s .entry)) (now (store .entry)) top (k + 1) r ⌝ }
+fn add_at(
+    dialect: Dialect,
+    s: &[u8],
+    store: &[u8],
+    top: usize,
+    k: usize,
+    sums: Sums,
+    table: &Table,
+) -> Sums
+    requires { ⌜ Measurable (now s) (now store) top × Summed dialect (now s) (now store) top k sums × (k < top) × (now table ≡ rows) ⌝ }
+    ensures { λ r. ⌜ Summed dialect (now (s .entry)) (now (store .entry)) top (k + 1) r ⌝ }
 {
     let fate = fate_at(store, top, k);
     if is_dropped(fate) {
@@ -58,7 +67,7 @@ fn add_at(s: &[u8], store: &[u8], top: usize, k: usize, sums: Sums, table: &Tabl
     let r = get_record(store, k);
     let f = fields_of(r);
     let more = Sums {
-        length: sums.length + own_len(is_slashed(fate), s, f, table),
+        length: sums.length + own_len(dialect, is_slashed(fate), s, f, table),
         errors: sums.errors + own_errors(f),
         ampersands: sums.ampersands,
         lines: sums.lines,
@@ -76,9 +85,9 @@ fn add_at(s: &[u8], store: &[u8], top: usize, k: usize, sums: Sums, table: &Tabl
 }
 
 // Measures the nodes that fill the first `top` records. The marks of a matrix were added as error texts, and are cells.
-pub fn measure(s: &[u8], store: &[u8], top: usize, table: &Table) -> Measured
+pub fn measure(dialect: Dialect, s: &[u8], store: &[u8], top: usize, table: &Table) -> Measured
     requires { ⌜ Measurable (now s) (now store) top × (now table ≡ rows) ⌝ }
-    ensures { λ r. ⌜ Measures (now (s .entry)) (now (store .entry)) top r ⌝ }
+    ensures { λ r. ⌜ Measures dialect (now (s .entry)) (now (store .entry)) top r ⌝ }
 {
     let mut sums = Sums {
         length: 0,
@@ -88,7 +97,7 @@ pub fn measure(s: &[u8], store: &[u8], top: usize, table: &Table) -> Measured
     };
     let mut k: usize = 0;
     while k < top {
-        sums = add_at(s, store, top, k, sums, table);
+        sums = add_at(dialect, s, store, top, k, sums, table);
         k += 1;
     }
     let more = sums.length + 11 * sums.ampersands + 22 * sums.lines;

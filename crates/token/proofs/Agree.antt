@@ -12,7 +12,7 @@ use Rattle.token.specs.declared.Token.{Token}
 use Rattle.token.specs.declared.Ordering.the-variants.{Less}
 use Rattle.token.specs.Texts.{texts, text, widths, width}
 use Rattle.token.specs.Arms.{arms}
-use Rattle.token.specs.Command.{fromCommand}
+use Rattle.token.specs.Command.{ownArms, fromCommand}
 use Rattle.token.specs.Table.{size, entries}
 use Rattle.token.specs.Code.{forms, tokenOf}
 use Rattle.token.specs.Key.{nameAt, tokenAt, packed, wordOf, wordsFrom, words, key, cmp}
@@ -31,19 +31,19 @@ rising i h = each (λ i. cmp (key i) (key (i + 1))) (λ i. Less) (size - 1) in-o
 
 -- ---- the agreement: the arms give each name of the table the token of the table, and each arm's name is in the table
 agree : (other : Token) → tab (λ i. fromCommand (nameAt i) other) size ≡ tab tokenAt size
-unfolding nameAt tokenAt entries tokenOf forms arms text width texts widths fromCommand
+unfolding nameAt tokenAt entries tokenOf forms arms ownArms text width texts widths fromCommand
 agree other = refl
 
 pub found : (other : Token) (i : ℕ) → i < size → fromCommand (nameAt i) other ≡ tokenAt i
 found other i h = each (λ i. fromCommand (nameAt i) other) tokenAt size (agree other) i h
 
-covered : all-listed (tab nameAt size) arms ≡ true
-unfolding nameAt entries arms
+covered : all-listed (tab nameAt size) ownArms ≡ true
+unfolding nameAt entries arms ownArms
 covered = refl
 
 pub absent : (s : List ℕ) (other : Token) → ((i : ℕ) → i < size → nameAt i ≡ s → ⊥) → fromCommand s other ≡ other
 unfolding fromCommand
-absent s other none = first-none nameAt size s other none arms covered
+absent s other none = first-none nameAt size s other none ownArms covered
 
 -- ---- each name is determined by its words
 abbrev small : List ℕ → Bool

@@ -1,18 +1,27 @@
--- Escapes go byte by byte, and a graphic character stands as itself.
+-- Escapes go byte by byte, a graphic character stands as itself, and of a text escaped twice a dialect changes only what XML reads as markup.
 -- Assumes nothing.
-use mathlib.Core.Path.{_≡_, refl, sym, _∙_}
-use mathlib.Core.Bool.{Bool}
+use mathlib.Core.Path.{_≡_, refl, sym, ap, _∙_}
+use mathlib.Core.Bool.{true, false}
+use mathlib.Core.Logic.{inl, inr}
 use mathlib.Core.List.{List, [], _∷_, _++_, append-assoc}
 use Prim.Native.Nat.{ℕ, _+_, _/_, _%_, _≤_, _<_}
 use native.Mathlib.Omega.{arith}
 use lib.ListN.{length, getD}
 use borrow.Author.Tests.{le-ltb, ne-eqb}
-use Rattle.text.specs.Put.{Room, Puts, digits, unpacked}
+use types.Run.{OneOf}
+use Rattle.text.specs.declared.Dialect.{Dialect}
+use Rattle.text.specs.Utf8.{encode}
+use Rattle.text.specs.Put.{digits, unpacked}
+use Rattle.text.specs.Xml.{xmlEscape, xmlText, inText, Reference}
+use Rattle.text.specs.Examples.{text-opens}
 use Rattle.text.specs.Text.{bytes, part}
+use Rattle.text.proofs.Cases.{never}
+use Rattle.text.proofs.Keys.{among, outside}
 use Rattle.text.proofs.PartLaws.{part-none, part-cons}
-use Rattle.text.proofs.PutLaws.{room-1, room-2, room-3, puts-3, room-as, puts-as}
+use Rattle.text.proofs.Tabled.{tab, each}
+use Rattle.text.proofs.XmlLaws.{text-append, same-text}
 use Rattle.token.specs.declared.Undefined.{Undefined}
-use Rattle.token.specs.Debug.{control, escapes, escapeBy, escape, orNul, commandName, debug}
+use Rattle.token.specs.Debug.{digit, hexadecimal, control, escapes, escapeBy, escape, orNul, commandName, debug}
 
 -- an escape for another byte does not apply
 miss : (k : ℕ) (t : List ℕ) (es : List (ℕ × List ℕ)) (b : ℕ) → (b ≡ k → ⊥) → escapeBy ((k, t) ∷ es) b ≡ escapeBy es b
@@ -51,18 +60,56 @@ unfolding escape
 escape-append [] m = refl
 escape-append (b ∷ l) m = rw (escape-append l m) (sym (append-assoc (escapeBy escapes b) (escape l) (escape m)))
 
+-- ---- in a dialect
+
+-- a byte that XML reads as markup stands as itself until XML's reference takes its place
+abbrev pub markup : List ℕ
+markup = 38 ∷ 60 ∷ 62 ∷ []
+
+abbrev twice : ℕ → List ℕ
+twice b = escape (escapeBy escapes b)
+
+marked-at : (k b w : ℕ) → b ≡ k → (encode k ≡ xmlText (encode k) → ⊥) → xmlText (encode k) ≡ xmlText (twice k) → Reference Dialect.Strict b w
+    → unpacked w ≡ inText Dialect.Strict (twice b)
+unfolding inText
+marked-at k b w e some same r =
+    let there : Reference Dialect.Strict k w = rw e at r in
+    rw e (there .escaped (λ z. some (there .itself z)) ∙ same)
+
+pub marked : (b w : ℕ) → OneOf markup b → Reference Dialect.Strict b w → unpacked w ≡ inText Dialect.Strict (twice b)
+unfolding text-opens xmlText xmlEscape escape escapes escapeBy control
+marked b w (inl e) r = marked-at 38 b w e (λ z. never cc) refl r
+marked b w (inr (inl e)) r = marked-at 60 b w e (λ z. never cc) refl r
+marked b w (inr (inr e)) r = marked-at 62 b w e (λ z. never cc) refl r
+
+-- no other byte is changed by XML, nor is its escape: one test of all bytes
+abbrev unless : ℕ → List ℕ → List ℕ
+unless b l = elim (among markup b) [ true ↦ [] | false ↦ l ]
+
+all-unmarked : tab (λ b. unless b (xmlText (twice b))) 256 ≡ tab (λ b. unless b (twice b)) 256
+unfolding text-opens xmlText xmlEscape digit hexadecimal escape escapes escapeBy control
+all-unmarked = refl
+
+pub unmarked : (b : ℕ) → b < 256 → (OneOf markup b → ⊥) → inText Dialect.Strict (twice b) ≡ twice b
+unfolding inText
+unmarked b h other =
+    let none = outside markup b (((tt, λ e. other (inr (inr e))), λ e. other (inr (inl e))), λ e. other (inl e)) in
+    let q = each (λ i. unless i (xmlText (twice i))) (λ i. unless i (twice i)) 256 all-unmarked b h in
+    rw (none, unless) at q
+
 -- a byte escaped twice, and the first of a part
 pub twice-cons : (b : ℕ) (l : List ℕ) → escape (escape (b ∷ l)) ≡ escape (escapeBy escapes b) ++ escape (escape l)
 unfolding escape
 twice-cons b l = escape-append (escapeBy escapes b) (escape l)
 
-pub twice-part : (s : List ℕ) (i e : ℕ) → i < e → e ≤ length s
-    → escape (escape (part i e s)) ≡ escape (escapeBy escapes (getD s i 0)) ++ escape (escape (part (i + 1) e s))
-twice-part s i e less inside = rw (part-cons s i e less inside) (twice-cons (getD s i 0) (part (i + 1) e s))
+pub twice-part : (d : Dialect) (s : List ℕ) (i e : ℕ) → i < e → e ≤ length s
+    → inText d (escape (escape (part i e s))) ≡ inText d (escape (escapeBy escapes (getD s i 0))) ++ inText d (escape (escape (part (i + 1) e s)))
+twice-part d s i e less inside =
+    rw (part-cons s i e less inside, twice-cons (getD s i 0) (part (i + 1) e s)) (text-append d _ _)
 
-pub twice-none : (s : List ℕ) (i e : ℕ) → e ≤ i → escape (escape (part i e s)) ≡ []
-unfolding escape
-twice-none s i e h = rw (part-none s i e h)
+pub twice-none : (d : Dialect) (s : List ℕ) (i e : ℕ) → e ≤ i → inText d (escape (escape (part i e s))) ≡ []
+unfolding escape xmlText
+twice-none d s i e h = rw (part-none s i e h) (same-text d [] refl)
 
 -- the name of a command
 pub name-none : (s : List ℕ) (a e : ℕ) → a ≡ e → commandName s a e ≡ 0 ∷ []
@@ -73,34 +120,16 @@ pub name-some : (s : List ℕ) (a e : ℕ) → a < e → e ≤ length s → comm
 unfolding commandName orNul
 name-some s a e less inside = rw (part-cons s a e less inside)
 
--- the Debug text of a command in three pieces, put one behind the other
-abbrev front : List ℕ
-front = escape (bytes "Command(\"")
-
-abbrev name : List ℕ → ℕ → ℕ → List ℕ
-name s a e = escape (escape (commandName s a e))
-
-abbrev back : List ℕ
-back = escape (bytes "\")")
-
-pieces : (s : List ℕ) (a e : ℕ) → escape (debug s (Undefined.Command a e)) ≡ front ++ name s a e ++ back
-unfolding debug
-pieces s a e = simp (escape-append, append-assoc)
-
-module _ (s : List ℕ) (a e : ℕ) {write : Bool} {o : List ℕ} {at : ℕ} (room : Room write o at (length (escape (debug s (Undefined.Command a e))))) where
-  all : Room write o at (length (front ++ name s a e ++ back))
-  all = room-as (pieces s a e) room
-
-  pub front-room : Room write o at (length front)
-  front-room = room-1 front (name s a e) back all
-
-  module _ {o₁ : List ℕ} {r₁ : ℕ} (p : Puts write o o₁ at front r₁) where
-    pub name-room : Room write o₁ r₁ (length (name s a e))
-    name-room = room-2 front (name s a e) back all p
-
-    module _ {o₂ : List ℕ} {r₂ : ℕ} (q : Puts write o₁ o₂ r₁ (name s a e) r₂) where
-      pub back-room : Room write o₂ r₂ (length back)
-      back-room = room-3 front (name s a e) back all p q
-
-      pub command-put : {o₃ : List ℕ} {r₃ : ℕ} → Puts write o₂ o₃ r₂ back r₃ → Puts write o o₃ at (escape (debug s (Undefined.Command a e))) r₃
-      command-put r = puts-as (pieces s a e) (puts-3 front (name s a e) back all p q r)
+-- the Debug text of a command in three pieces
+pub command-pieces : (d : Dialect) (s : List ℕ) (a e : ℕ)
+    → inText d (escape (debug s (Undefined.Command a e)))
+    ≡ escape (bytes "Command(\"") ++ inText d (escape (escape (commandName s a e))) ++ escape (bytes "\")")
+unfolding text-opens xmlText xmlEscape escape escapes escapeBy control debug
+command-pieces d s a e =
+    let front = bytes "Command(\"" in
+    let name = escape (commandName s a e) in
+    let back = bytes "\")" in
+    ap (inText d) (escape-append front (name ++ back) ∙ rw (escape-append name back))
+    ∙ text-append d (escape front) (escape name ++ escape back)
+    ∙ rw (text-append d (escape name) (escape back), same-text d (escape front) refl, same-text d (escape back) refl)
+    (sym (append-assoc (escape front) (inText d (escape name)) (escape back)))

@@ -21,7 +21,7 @@ use Rattle.token.specs.declared.Token.the-variants.{EOF, Begin, End, Amp
 use Rattle.token.specs.declared.Undefined.{Undefined}
 use Rattle.token.specs.Spell.{Arm, spells, first}
 use Rattle.token.specs.Arms.{arms}
-use Rattle.token.specs.Command.{fromCommand}
+use Rattle.token.specs.Command.{ownArms, fromCommand}
 use Rattle.token.specs.Roles.{letterOf}
 use Rattle.token.specs.Texts.{texts, printedWidths, textOf, widthOf}
 use Rattle.token.specs.Debug.{digit, hexadecimal, control, escapes, escapeBy, escape, orNul, commandName, debug}
@@ -127,8 +127,8 @@ spelled-plain (L._∷_ n s) (c ∷ t) e =
 abbrev armPlain : Arm Token → Bool
 armPlain arm = elim (textPlain (arm .name)) [ true ↦ tokenPlain (arm .gives) | false ↦ true ]
 
-all-arms : every armPlain arms ≡ true
-unfolding arms
+all-arms : every armPlain ownArms ≡ true
+unfolding arms ownArms
 all-arms = refl
 
 -- so whatever arm a plain name finds, its token is plain
@@ -143,7 +143,7 @@ first-plain s other h w (L._∷_ arm rest) e =
 
 pub command-plain : (s : List ℕ) (other : Token) → plain s ≡ true → tokenPlain other ≡ true → tokenPlain (fromCommand s other) ≡ true
 unfolding fromCommand
-command-plain s other h w = first-plain s other h w arms all-arms
+command-plain s other h w = first-plain s other h w ownArms all-arms
 
 -- ---- fixed texts
 

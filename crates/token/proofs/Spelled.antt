@@ -15,7 +15,7 @@ use Rattle.text.proofs.Cases.{by-test, both}
 use Rattle.text.proofs.Tabled.{tab}
 
 -- one text has one spelling
-spells-one : (s t : List ℕ) (n : String) → spells s n ≡ true → spells t n ≡ true → s ≡ t
+pub spells-one : (s t : List ℕ) (n : String) → spells s n ≡ true → spells t n ≡ true → s ≡ t
 spells-one L.[] L.[] [] p q = refl
 spells-one L.[] L.[] (c ∷ n) p q = refl
 spells-one L.[] (L._∷_ y t) [] p q = absurd (false≢true q)

@@ -1,5 +1,5 @@
--- The command table: the names of `Arms`, sorted by their bytes, each with the code of its token (`Code`). Written by tools/table.py;
--- the law file `Agree` shows its order, and that it says what `Arms` says.
+-- The command table: the names of `ownArms`, sorted by their bytes, each with the code of its token (`Code`). Written by tools/table.py;
+-- the law file `Agree` shows its order, and that it says what `ownArms` says.
 -- Assumes nothing.
 use mathlib.Core.List.{List, [], _∷_}
 use Prim.Native.Nat.{ℕ}
@@ -326,7 +326,7 @@ entries =
     "nequiv" => 0x9f002262 ∷
     "nexists" => 0x9f002204 ∷
     "ng" => 0xa200014b ∷
-    "ni" => 0x9f002209 ∷
+    "ni" => 0x9f00220b ∷
     "nleftarrow" => 0x9f00219a ∷
     "nleftrightarrow" => 0x9f0021ae ∷
     "nmid" => 0x9f002224 ∷

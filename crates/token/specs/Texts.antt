@@ -4,10 +4,12 @@ use mathlib.Core.Bool.{true, false}
 use mathlib.Core.List.{List, [], _∷_}
 use Prim.Native.Nat.{ℕ, suc}
 use Prim.Native.String.{String}
+use lib.Dec.{eqb}
 use lib.ListN.{getD}
 use lib.Text.{eqt}
+use Rattle.text.specs.declared.Dialect.{Dialect}
 
--- the empty parenthesis, then the lexer's texts and the commands' texts, each in the Rust's order
+-- the empty parenthesis, then the lexer's texts and the commands' texts, each in the Rust's order, then those of the strict dialect alone
 unfoldable pub texts : List String
 texts =
     "" ∷
@@ -18,6 +20,7 @@ texts =
     "sin" ∷ "cos" ∷ "tan" ∷ "csc" ∷ "sec" ∷ "cot" ∷ "arcsin" ∷ "arccos" ∷ "arctan" ∷ "sinh" ∷ "cosh" ∷ "tanh" ∷ "coth" ∷
     "exp" ∷ "ln" ∷ "log" ∷ "erf" ∷ "erfc" ∷ "arg" ∷ "ker" ∷ "dim" ∷ "det" ∷ "℘" ∷
     "∥" ∷
+    "⟨" ∷ "⟩" ∷
     []
 
 -- a space's widths, as the Rust writes them, and as it prints the f32 of each
@@ -38,6 +41,12 @@ text t = place t texts
 
 unfoldable pub textOf : ℕ → String
 textOf n = getD texts n ""
+
+-- the number of a fixed text in a dialect: the strict one has characters for the two names of angle brackets
+unfoldable pub textIn : Dialect → ℕ → ℕ
+textIn Dialect.Old t = t
+textIn Dialect.Strict t =
+    elim (eqb t (text "&lang;")) [ true ↦ text "⟨" | false ↦ elim (eqb t (text "&rang;")) [ true ↦ text "⟩" | false ↦ t ] ]
 
 -- the number of a width, and what is printed for a number
 unfoldable pub width : String → ℕ

@@ -1,12 +1,15 @@
-// The Debug text of the tokens that become `Undefined`, escaped once more, as the error text has it.
+// The Debug text of the tokens that become `Undefined`, escaped once more, as the error text has it, in a dialect.
 use crate::Undefined;
+use text::Dialect;
 use text::put::put;
 use text::put::put_packed;
+use text::xml::reference;
 ghost use mathlib.Core.Path.{_≡_};
 ghost use Prim.Native.Nat.{_≤_};
 ghost use lib.ListN.{length};
 ghost use Rattle.text.specs.Text.{part};
 ghost use Rattle.text.specs.Put.{Room, Puts, unpacked};
+ghost use Rattle.text.specs.Xml.{inText};
 ghost use Rattle.token.specs.Debug.{escapes, escapeBy, escape, commandName, debug, Inside};
 
 // What a byte of a name is after both escapes, packed: it never has more than seven bytes.
@@ -60,45 +63,89 @@ fn wide(b: u8) -> u64
     b as u64
 }
 
+// What a byte of a name is in a dialect, packed: no escape has a byte that XML reads as markup.
+fn escaped_in(dialect: Dialect, b: u8) -> u64
+    ensures { λ r. ⌜ unpacked r ≡ inText dialect (escape (escapeBy escapes b)) ⌝ }
+{
+    match dialect {
+        Dialect::Old => escaped_twice(b),
+        Dialect::Strict => match b {
+            38 | 60 | 62 => reference(dialect, b as u32),
+            _ => escaped_twice(b),
+        },
+    }
+}
+
 // Puts the bytes of the body from `a` up to `e`, escaped twice.
-fn put_escaped(s: &[u8], a: usize, e: usize, out: &mut [u8], at: usize, write: bool) -> usize
-    requires { ⌜ (a ≤ e) × (e ≤ length (now s)) × Room write (now out) at (length (escape (escape (part a e (now s))))) ⌝ }
-    ensures { λ r. ⌜ Puts write (now (out .entry)) (now (out .exit)) at (escape (escape (part a e (now (s .entry))))) r ⌝ }
+fn put_escaped(
+    dialect: Dialect,
+    s: &[u8],
+    a: usize,
+    e: usize,
+    out: &mut [u8],
+    at: usize,
+    write: bool,
+) -> usize
+    requires { ⌜ (a ≤ e) × (e ≤ length (now s)) × Room write (now out) at (length (inText dialect (escape (escape (part a e (now s)))))) ⌝ }
+    ensures { λ r. ⌜ Puts write (now (out .entry)) (now (out .exit)) at (inText dialect (escape (escape (part a e (now (s .entry)))))) r ⌝ }
 {
     let mut place = at;
     let mut i = a;
     while i < e {
-        place = put_packed(escaped_twice(s[i]), out, place, write);
+        place = put_packed(escaped_in(dialect, s[i]), out, place, write);
         i += 1;
     }
     place
 }
 
 // Puts the name of a command, escaped twice: at the end of the body its name is a NUL.
-fn put_name(s: &[u8], a: usize, e: usize, out: &mut [u8], at: usize, write: bool) -> usize
-    requires { ⌜ (a ≤ e) × (e ≤ length (now s)) × Room write (now out) at (length (escape (escape (commandName (now s) a e)))) ⌝ }
-    ensures { λ r. ⌜ Puts write (now (out .entry)) (now (out .exit)) at (escape (escape (commandName (now (s .entry)) a e))) r ⌝ }
+fn put_name(
+    dialect: Dialect,
+    s: &[u8],
+    a: usize,
+    e: usize,
+    out: &mut [u8],
+    at: usize,
+    write: bool,
+) -> usize
+    requires { ⌜ (a ≤ e) × (e ≤ length (now s)) × Room write (now out) at (length (inText dialect (escape (escape (commandName (now s) a e))))) ⌝ }
+    ensures { λ r. ⌜ Puts write (now (out .entry)) (now (out .exit)) at (inText dialect (escape (escape (commandName (now (s .entry)) a e)))) r ⌝ }
 {
     if a == e {
         return put(b"\\\\0", out, at, write);
     }
-    put_escaped(s, a, e, out, at, write)
+    put_escaped(dialect, s, a, e, out, at, write)
 }
 
 // Puts the Debug text of an unknown command, escaped once more.
-fn put_command(s: &[u8], a: usize, e: usize, out: &mut [u8], at: usize, write: bool) -> usize
-    requires { ⌜ (a ≤ e) × (e ≤ length (now s)) × Room write (now out) at (length (escape (debug (now s) (Undefined.Command a e)))) ⌝ }
-    ensures { λ r. ⌜ Puts write (now (out .entry)) (now (out .exit)) at (escape (debug (now (s .entry)) (Undefined.Command a e))) r ⌝ }
+fn put_command(
+    dialect: Dialect,
+    s: &[u8],
+    a: usize,
+    e: usize,
+    out: &mut [u8],
+    at: usize,
+    write: bool,
+) -> usize
+    requires { ⌜ (a ≤ e) × (e ≤ length (now s)) × Room write (now out) at (length (inText dialect (escape (debug (now s) (Undefined.Command a e))))) ⌝ }
+    ensures { λ r. ⌜ Puts write (now (out .entry)) (now (out .exit)) at (inText dialect (escape (debug (now (s .entry)) (Undefined.Command a e)))) r ⌝ }
 {
     let name = put(b"Command(\\\"", out, at, write);
-    let end = put_name(s, a, e, out, name, write);
+    let end = put_name(dialect, s, a, e, out, name, write);
     put(b"\\\")", out, end, write)
 }
 
 // Puts the Debug text of a token, escaped once more.
-pub fn put_debug(s: &[u8], u: Undefined, out: &mut [u8], at: usize, write: bool) -> usize
-    requires { ⌜ Inside (length (now s)) u × Room write (now out) at (length (escape (debug (now s) u))) ⌝ }
-    ensures { λ r. ⌜ Puts write (now (out .entry)) (now (out .exit)) at (escape (debug (now (s .entry)) u)) r ⌝ }
+pub fn put_debug(
+    dialect: Dialect,
+    s: &[u8],
+    u: Undefined,
+    out: &mut [u8],
+    at: usize,
+    write: bool,
+) -> usize
+    requires { ⌜ Inside (length (now s)) u × Room write (now out) at (length (inText dialect (escape (debug (now s) u)))) ⌝ }
+    ensures { λ r. ⌜ Puts write (now (out .entry)) (now (out .exit)) at (inText dialect (escape (debug (now (s .entry)) u))) r ⌝ }
 {
     match u {
         Undefined::EOF => put(b"EOF", out, at, write),
@@ -107,6 +154,6 @@ pub fn put_debug(s: &[u8], u: Undefined, out: &mut [u8], at: usize, write: bool)
         Undefined::RBrace => put(b"RBrace", out, at, write),
         Undefined::Underscore => put(b"Underscore", out, at, write),
         Undefined::Circumflex => put(b"Circumflex", out, at, write),
-        Undefined::Command(a, e) => put_command(s, a, e, out, at, write),
+        Undefined::Command(a, e) => put_command(dialect, s, a, e, out, at, write),
     }
 }

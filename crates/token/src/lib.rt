@@ -11,11 +11,12 @@ use table::LENGTH;
 use table::MARK;
 use table::Table;
 use table::token_of;
+use text::Dialect;
 ghost use mathlib.Core.Path.{_≡_};
 ghost use Prim.Native.Nat.{ℕ, _+_, _*_, _^_, _≤_, _<_};
 ghost use lib.ListN.{length, getD, drop};
 ghost use Rattle.text.specs.Text.{part};
-ghost use Rattle.token.specs.Command.{fromCommand, actsOnADigit};
+ghost use Rattle.token.specs.Command.{fromCommand, operatorIn, actsOnADigit};
 ghost use Rattle.token.specs.Key.{wordOf, words, key, rows, cmp, Row, Has, Place};
 
 // The Rust's `Option<DisplayStyle>`.
@@ -228,5 +229,18 @@ pub fn from_command(s: &[u8], a: usize, e: usize, table: &Table) -> Token
         token_of(table[at + (e - a + 3) / 4])
     } else {
         Token::Command(a, e)
+    }
+}
+
+// The character that a dialect prints for an operator's: the old one has the Rust's for `\ni`.
+pub fn operator_in(dialect: Dialect, c: u32) -> u32
+    ensures { λ r. ⌜ r ≡ operatorIn dialect c ⌝ }
+{
+    match dialect {
+        Dialect::Old => match c {
+            0x220b => 0x2209,
+            _ => c,
+        },
+        Dialect::Strict => c,
     }
 }

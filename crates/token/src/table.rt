@@ -1248,7 +1248,7 @@ pub const TABLE: Table = [
     0xa200014b,
     // "ni"
     0x6e690000,
-    0x9f002209,
+    0x9f00220b,
     // "nleftarrow"
     0x6e6c6566,
     0x74617272,

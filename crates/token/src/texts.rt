@@ -1,11 +1,12 @@
 // The fixed texts that tokens and nodes carry by number.
+use text::Dialect;
 use text::put::put;
 use text::put::put_packed;
 ghost use mathlib.Core.Path.{_≡_};
 ghost use lib.ListN.{length};
 ghost use Rattle.text.specs.Text.{bytes};
 ghost use Rattle.text.specs.Put.{Room, Puts, unpacked};
-ghost use Rattle.token.specs.Texts.{textOf, widthOf};
+ghost use Rattle.token.specs.Texts.{textOf, textIn, widthOf};
 
 // The fixed text of a number, packed: no text has more than seven bytes, and a number of this match is one load.
 fn packed_text(n: u32) -> u64
@@ -66,7 +67,23 @@ fn packed_text(n: u32) -> u64
         51 => 0x0300_0000_0074_6564, // det
         52 => 0x0300_0000_0098_84e2, // ℘
         53 => 0x0300_0000_00a5_88e2, // ∥
+        54 => 0x0300_0000_00a8_9fe2, // ⟨
+        55 => 0x0300_0000_00a9_9fe2, // ⟩
         _ => 0,
+    }
+}
+
+// The number of the text that a dialect has for a fixed text: the strict one has characters for the names of angle brackets.
+pub fn text_in(dialect: Dialect, n: u32) -> u32
+    ensures { λ r. ⌜ r ≡ textIn dialect n ⌝ }
+{
+    match dialect {
+        Dialect::Old => n,
+        Dialect::Strict => match n {
+            7 => 54,
+            8 => 55,
+            _ => n,
+        },
     }
 }
 

@@ -2,11 +2,13 @@
 use crate::case::Case;
 use attribute::DisplayStyle;
 use latex2mathml::Answer;
+use latex2mathml::Manner;
 use latex2mathml::number;
 use latex2mathml::replace::replace;
 use latex2mathml::translate::latex_to_mathml;
 use page::PageAnswer;
 use page::page;
+use text::Dialect;
 ghost use Prim.Native.Nat.{_≤_};
 
 // An answer in numbers: 0 and the length, or the number of the refusal; the counts of a page.
@@ -68,12 +70,30 @@ fn display_of(block: bool) -> DisplayStyle {
     DisplayStyle::Inline
 }
 
+fn manner_of(case: Case) -> Manner {
+    if case.strict {
+        return Manner {
+            dialect: Dialect::Strict,
+        };
+    }
+    Manner {
+        dialect: Dialect::Old,
+    }
+}
+
 // The body translation of a text.
 pub fn ask_body(case: Case, text: &[u8], block: bool, store: &mut [u8], out: &mut [u8]) -> Got {
     let records = least(case.store, store.len());
     let room = least(case.output, out.len());
     let display = display_of(block);
-    in_numbers(latex_to_mathml(text, display, &mut store[..records], &mut out[..room]))
+    let manner = manner_of(case);
+    in_numbers(latex_to_mathml(
+        manner,
+        text,
+        display,
+        &mut store[..records],
+        &mut out[..room],
+    ))
 }
 
 // The replacement in a text.
@@ -87,7 +107,9 @@ pub fn ask_document(
     let records = least(case.store, store.len());
     let between = least(case.work, work.len());
     let room = least(case.output, out.len());
+    let manner = manner_of(case);
     in_numbers(replace(
+        manner,
         text,
         &mut store[..records],
         &mut work[..between],
@@ -100,7 +122,9 @@ pub fn ask_page(case: Case, text: &[u8], store: &mut [u8], work: &mut [u8], out:
     let records = least(case.store, store.len());
     let between = least(case.work, work.len());
     let room = least(case.output, out.len());
+    let manner = manner_of(case);
     page_in_numbers(page(
+        manner,
         text,
         &mut store[..records],
         &mut work[..between],

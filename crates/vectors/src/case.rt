@@ -3,10 +3,11 @@ use crate::packed::decimal;
 ghost use Prim.Native.Nat.{_≤_};
 ghost use lib.ListN.{length};
 
-// What a line's head says: the lengths lent, and the number, the paragraphs and those left as typed that are expected.
+// What a line's head says: what is asked and in which dialect, the lengths lent, and the number, the paragraphs and those left as typed that are expected.
 pub struct Case {
     pub kind: u8,
     pub scope: bool,
+    pub strict: bool,
     pub store: usize,
     pub work: usize,
     pub output: usize,
@@ -22,11 +23,12 @@ pub struct Head {
 }
 
 impl Case {
-    // Enough is lent where the head does not say how much, and the answer is an acceptance.
+    // The old dialect is asked and enough is lent where the head does not say otherwise, and the answer is an acceptance.
     fn new() -> Case {
         Case {
             kind: 0,
             scope: false,
+            strict: false,
             store: 196608,
             work: 65536,
             output: 131072,
@@ -41,6 +43,9 @@ impl Case {
         match letter {
             b'!' => {
                 self.scope = true;
+            }
+            b'S' => {
+                self.strict = true;
             }
             b's' => {
                 self.store = n;

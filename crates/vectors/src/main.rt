@@ -4,6 +4,7 @@
 // each; a text that is missing is empty. The head is letters, some with a number behind them, in any order:
 //
 //   M B I D P  what is asked: a body in both displays, in block or in inline; a document; a page
+//   S          in the strict dialect, and not in the old one
 //   n p l      the expected number of a refusal, and a page's numbers of paragraphs and of those left as typed; 0 where it is left out
 //   s w o      the lengths of the store, the work buffer and the output that are lent; 196,608, 65,536 and 131,072 where it is left out
 //   !          the answer is written by hand from document 01, or put together by its rule for pages, and not the crate's own;

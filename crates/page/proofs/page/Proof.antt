@@ -4,12 +4,19 @@ use mathlib.Core.Path.{refl, sym, _∙_}
 use lib.ListN.{length}
 use Rattle.page.proofs.PageLaws.{pages-long}
 use borrow.Author.Needs.{needs}
+use native.Mathlib.Omega.{arith}
 use Rattle.page.proofs.page.Statement.{statement}
 use Rattle.page.proofs.page.Tie as tie
+use Rattle.page.proofs.page.Reads as reads
+use Rattle.page.proofs.page.Lts as lts
+use Rattle.latex2mathml.proofs.dollars.is_prose.Reads as is-prose-reads
+use Rattle.page.proofs.page_in.Reads as page-in-reads
+use Rattle.page.proofs.prose_page.Reads as prose-page-reads
+use Rattle.page.proofs.short_page.Reads as short-page-reads
 
 returns : tie.Need-returns
 returns c =
-    (pages-long ((c .before .before .before .before .before .args) .document .now) (length ((c .before .before .before .before .before .args) .store .now)) (length ((c .before .before .before .before .before .args) .work .now)) ((c .before .before .before .before .before .args) .out .now) ((c .if1) .taken), refl, refl)
+    (pages-long ((c .before .before .before .before .before .args) .manner) ((c .before .before .before .before .before .args) .document .now) (length ((c .before .before .before .before .before .args) .store .now)) (length ((c .before .before .before .before .before .args) .work .now)) ((c .before .before .before .before .before .args) .out .now) ((c .if1) .taken), refl, refl)
 
 is-prose-requires : tie.Need-is-prose-requires
 is-prose-requires c κs = search needs
@@ -23,7 +30,7 @@ same-length c = search needs
 
 returns-2 : tie.Need-returns-2
 returns-2 c =
-    ((c .before .before .prose-page) .ensures (length ((c .before .before .before .before .before .before .before .before .before .before .before .before .args) .store .now)) (length ((c .before .before .before .before .before .before .before .before .before .before .before .before .args) .work .now)) ((c .before .before .before .before .before .before .if2) .taken), refl, refl)
+    ((c .before .before .prose-page) .ensures ((c .before .before .before .before .before .before .before .before .before .before .before .before .args) .manner) (length ((c .before .before .before .before .before .before .before .before .before .before .before .before .args) .store .now)) (length ((c .before .before .before .before .before .before .before .before .before .before .before .before .args) .work .now)) ((c .before .before .before .before .before .before .if2) .taken), refl, refl)
 
 short-page-requires : tie.Need-short-page-requires
 short-page-requires c κs = search needs

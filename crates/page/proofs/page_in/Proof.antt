@@ -34,18 +34,18 @@ same-length-4 c = search needs
 
 returns : tie.Need-returns
 returns c =
-    (pages-full ((c .before .before .before .before .before .before .before .before .before .before .before .before .before .before .before .before .before .before .before .before .before .before .args) .document .now) (length ((c .before .before .before .before .before .before .before .before .before .before .before .before .before .before .before .before .before .before .before .before .before .before .args) .store .now)) (length ((c .before .before .before .before .before .before .before .before .before .before .before .before .before .before .before .before .before .before .before .before .before .before .args) .work .now)) ((c .before .before .before .before .before .before .before .before .before .before .before .before .before .before .before .before .before .before .before .before .before .before .args) .out .now) ((c .before .before .before .before .before .before .before .before .before .before .before .before .before .before .before .before .before .before .before .before .before .before .pre) .0) ((c .before .before .before .before .before .before .before .before .before .draft-page) .ensures) ((c .if1) .taken), (c .before .before .before .before .before .before .before .before .before .draft-page) .kept .1 .0, (c .before .before .before .before .before .before .before .before .before .draft-page) .kept .1 .1 .0)
+    (pages-full ((c .before .before .before .before .before .before .before .before .before .before .before .before .before .before .before .before .before .before .before .before .before .before .args) .manner) ((c .before .before .before .before .before .before .before .before .before .before .before .before .before .before .before .before .before .before .before .before .before .before .args) .document .now) (length ((c .before .before .before .before .before .before .before .before .before .before .before .before .before .before .before .before .before .before .before .before .before .before .args) .store .now)) (length ((c .before .before .before .before .before .before .before .before .before .before .before .before .before .before .before .before .before .before .before .before .before .before .args) .work .now)) ((c .before .before .before .before .before .before .before .before .before .before .before .before .before .before .before .before .before .before .before .before .before .before .args) .out .now) ((c .before .before .before .before .before .before .before .before .before .before .before .before .before .before .before .before .before .before .before .before .before .before .pre) .0) ((c .before .before .before .before .before .before .before .before .before .draft-page) .ensures) ((c .if1) .taken), (c .before .before .before .before .before .before .before .before .before .draft-page) .kept .1 .1 .0, (c .before .before .before .before .before .before .before .before .before .draft-page) .kept .1 .1 .1 .0)
 
 slice-reshare-prefix-put : tie.Need-slice-reshare-prefix-put
 slice-reshare-prefix-put c = (c .if2) .taken
 
 slice-aggregate-put : tie.Need-slice-aggregate-put
 slice-aggregate-put c =
-    copy-long ((c .before .before .before .before .before .before .before .before .before .before .before .before .before .before .before .before .before .before .before .before .before .before .before .before .args) .document .now) (length ((c .before .before .before .before .before .before .before .before .before .before .before .before .before .before .before .before .before .before .before .before .before .before .before .before .args) .store .now)) (length ((c .before .before .before .before .before .before .before .before .before .before .before .before .before .before .before .before .before .before .before .before .before .before .before .before .args) .work .now)) ((c .before .before .before .before .before .before .before .before .before .before .before .before .before .before .before .before .before .before .before .before .before .before .before .before .args) .out .now) ((c .before .before .before .before .before .before .before .before .before .before .before .before .before .before .before .before .before .before .before .before .before .before .before .before .pre) .0) ((c .before .before .before .before .before .before .before .before .before .before .before .draft-page) .ensures) (omega arith) ((c .before .before .if1) .left) ((c .before .if2) .taken)
+    copy-long ((c .before .before .before .before .before .before .before .before .before .before .before .before .before .before .before .before .before .before .before .before .before .before .before .before .args) .manner) ((c .before .before .before .before .before .before .before .before .before .before .before .before .before .before .before .before .before .before .before .before .before .before .before .before .args) .document .now) (length ((c .before .before .before .before .before .before .before .before .before .before .before .before .before .before .before .before .before .before .before .before .before .before .before .before .args) .store .now)) (length ((c .before .before .before .before .before .before .before .before .before .before .before .before .before .before .before .before .before .before .before .before .before .before .before .before .args) .work .now)) ((c .before .before .before .before .before .before .before .before .before .before .before .before .before .before .before .before .before .before .before .before .before .before .before .before .args) .out .now) ((c .before .before .before .before .before .before .before .before .before .before .before .before .before .before .before .before .before .before .before .before .before .before .before .before .pre) .0) ((c .before .before .before .before .before .before .before .before .before .before .before .draft-page) .ensures) (omega arith) ((c .before .before .if1) .left) ((c .before .if2) .taken)
 
 put-requires : tie.Need-put-requires
 put-requires c κs =
-    copy-room ((c .before .before .before .before .before .before .before .before .before .before .before .before .before .before .before .before .before .before .before .before .before .before .before .before .before .args) .document .now) (length ((c .before .before .before .before .before .before .before .before .before .before .before .before .before .before .before .before .before .before .before .before .before .before .before .before .before .args) .store .now)) (length ((c .before .before .before .before .before .before .before .before .before .before .before .before .before .before .before .before .before .before .before .before .before .before .before .before .before .args) .work .now)) ((c .before .before .before .before .before .before .before .before .before .before .before .before .before .before .before .before .before .before .before .before .before .before .before .before .before .args) .out .now) ((c .before .before .before .before .before .before .before .before .before .before .before .before .before .before .before .before .before .before .before .before .before .before .before .before .before .pre) .0) ((c .before .before .before .before .before .before .before .before .before .before .before .before .draft-page) .ensures) (omega arith) ((c .before .before .before .if1) .left) ((c .before .before .if2) .taken)
+    copy-room ((c .before .before .before .before .before .before .before .before .before .before .before .before .before .before .before .before .before .before .before .before .before .before .before .before .before .args) .manner) ((c .before .before .before .before .before .before .before .before .before .before .before .before .before .before .before .before .before .before .before .before .before .before .before .before .before .args) .document .now) (length ((c .before .before .before .before .before .before .before .before .before .before .before .before .before .before .before .before .before .before .before .before .before .before .before .before .before .args) .store .now)) (length ((c .before .before .before .before .before .before .before .before .before .before .before .before .before .before .before .before .before .before .before .before .before .before .before .before .before .args) .work .now)) ((c .before .before .before .before .before .before .before .before .before .before .before .before .before .before .before .before .before .before .before .before .before .before .before .before .before .args) .out .now) ((c .before .before .before .before .before .before .before .before .before .before .before .before .before .before .before .before .before .before .before .before .before .before .before .before .before .pre) .0) ((c .before .before .before .before .before .before .before .before .before .before .before .before .draft-page) .ensures) (omega arith) ((c .before .before .before .if1) .left) ((c .before .before .if2) .taken)
 
 same-length-5 : tie.Need-same-length-5
 same-length-5 c = search needs
@@ -64,13 +64,13 @@ same-length-9 c = search needs
 
 returns-2 : tie.Need-returns-2
 returns-2 c =
-    (pages-copied ((c .before .before .before .before .before .before .before .before .before .before .before .before .before .before .before .before .before .before .before .before .before .before .before .before .before .before .before .before .args) .document .now) (length ((c .before .before .before .before .before .before .before .before .before .before .before .before .before .before .before .before .before .before .before .before .before .before .before .before .before .before .before .before .args) .store .now)) (length ((c .before .before .before .before .before .before .before .before .before .before .before .before .before .before .before .before .before .before .before .before .before .before .before .before .before .before .before .before .args) .work .now)) ((c .before .before .before .before .before .before .before .before .before .before .before .before .before .before .before .before .before .before .before .before .before .before .before .before .before .before .before .before .args) .out .now) ((c .before .before .before .before .before .before .before .before .before .before .before .before .before .before .before .before .before .before .before .before .before .before .before .before .before .before .before .before .pre) .0) ((c .before .before .before .before .before .before .before .before .before .before .before .before .before .before .before .draft-page) .ensures) (omega (arith, (c .before .before .before .before .before .before .before .before .before .before .before .before .before .before .before .before .before .before .before .before .before .before .before .before .before .before .before .before .good) .1 .1 .1 .0 .0)) ((c .before .before .before .before .before .before .if1) .left) ((c .before .before .before .before .before .if2) .taken) _ ((c .before .before .put) .ensures), (c .before .before .before .before .before .before .before .before .before .before .before .before .before .before .before .draft-page) .kept .1 .0, (c .before .before .before .before .before .before .before .before .before .before .before .before .before .before .before .draft-page) .kept .1 .1 .0)
+    (pages-copied ((c .before .before .before .before .before .before .before .before .before .before .before .before .before .before .before .before .before .before .before .before .before .before .before .before .before .before .before .before .args) .manner) ((c .before .before .before .before .before .before .before .before .before .before .before .before .before .before .before .before .before .before .before .before .before .before .before .before .before .before .before .before .args) .document .now) (length ((c .before .before .before .before .before .before .before .before .before .before .before .before .before .before .before .before .before .before .before .before .before .before .before .before .before .before .before .before .args) .store .now)) (length ((c .before .before .before .before .before .before .before .before .before .before .before .before .before .before .before .before .before .before .before .before .before .before .before .before .before .before .before .before .args) .work .now)) ((c .before .before .before .before .before .before .before .before .before .before .before .before .before .before .before .before .before .before .before .before .before .before .before .before .before .before .before .before .args) .out .now) ((c .before .before .before .before .before .before .before .before .before .before .before .before .before .before .before .before .before .before .before .before .before .before .before .before .before .before .before .before .pre) .0) ((c .before .before .before .before .before .before .before .before .before .before .before .before .before .before .before .draft-page) .ensures) (omega (arith, (c .before .before .before .before .before .before .before .before .before .before .before .before .before .before .before .before .before .before .before .before .before .before .before .before .before .before .before .before .good) .1 .1 .1 .1 .0 .0)) ((c .before .before .before .before .before .before .if1) .left) ((c .before .before .before .before .before .if2) .taken) _ ((c .before .before .put) .ensures), (c .before .before .before .before .before .before .before .before .before .before .before .before .before .before .before .draft-page) .kept .1 .1 .0, (c .before .before .before .before .before .before .before .before .before .before .before .before .before .before .before .draft-page) .kept .1 .1 .1 .0)
 
 write-page-requires : tie.Need-write-page-requires
 write-page-requires c κs =
     let h = (c .before .before .before .before .before .before .before .before .before .before .before .before .before .before .before .draft-page) .ensures in
     let q = (c .before .before .before .before .before .before .before .before .before .before .before .before .before .before .before .draft-page) .kept in
-    rw (q .1 .0, q .1 .1 .0) (h .marked, record { small = omega (arith, h .long); inside = λ e. omega (arith, h .long) }, (c .before .before .before .before .before .before .before .before .before .before .before .before .before .before .before .before .before .before .before .before .before .table) .ensures)
+    rw (q .1 .1 .0, q .1 .1 .1 .0) (h .marked, record { small = omega (arith, h .long); inside = λ e. omega (arith, h .long) }, (c .before .before .before .before .before .before .before .before .before .before .before .before .before .before .before .before .before .before .before .before .before .table) .ensures)
 
 same-length-10 : tie.Need-same-length-10
 same-length-10 c = search needs
@@ -90,7 +90,7 @@ same-length-14 c = search needs
 returns-3 : tie.Need-returns-3
 returns-3 c =
     let q = (c .before .before .before .before .before .before .before .before .before .before .before .before .before .before .before .before .before .before .before .before .before .before .draft-page) .kept in
-    (pages-written ((c .before .before .before .before .before .before .before .before .before .before .before .before .before .before .before .before .before .before .before .before .before .before .before .before .before .before .before .before .before .before .before .before .before .before .before .args) .document .now) (length ((c .before .before .before .before .before .before .before .before .before .before .before .before .before .before .before .before .before .before .before .before .before .before .before .before .before .before .before .before .before .before .before .before .before .before .before .args) .store .now)) (length ((c .before .before .before .before .before .before .before .before .before .before .before .before .before .before .before .before .before .before .before .before .before .before .before .before .before .before .before .before .before .before .before .before .before .before .before .args) .work .now)) ((c .before .before .before .before .before .before .before .before .before .before .before .before .before .before .before .before .before .before .before .before .before .before .before .before .before .before .before .before .before .before .before .before .before .before .before .args) .out .now) ((c .before .before .before .before .before .before .before .before .before .before .before .before .before .before .before .before .before .before .before .before .before .before .before .before .before .before .before .before .before .before .before .before .before .before .before .pre) .0) ((c .before .before .before .before .before .before .before .before .before .before .before .before .before .before .before .before .before .before .before .before .before .before .draft-page) .ensures) ((c .before .before .before .before .before .before .before .before .before .before .before .before .before .if1) .left) (rw (q .1 .0, q .1 .1 .0) at ((c .before .before .before .before .before .before .write-page) .ensures)), (c .before .before .before .before .before .before .write-page) .kept .1 .0 ∙ (c .before .before .before .before .before .before .before .before .before .before .before .before .before .before .before .before .before .before .before .before .before .before .draft-page) .kept .1 .0, (c .before .before .before .before .before .before .write-page) .kept .1 .1 .0 ∙ (c .before .before .before .before .before .before .before .before .before .before .before .before .before .before .before .before .before .before .before .before .before .before .draft-page) .kept .1 .1 .0)
+    (pages-written ((c .before .before .before .before .before .before .before .before .before .before .before .before .before .before .before .before .before .before .before .before .before .before .before .before .before .before .before .before .before .before .before .before .before .before .before .args) .manner) ((c .before .before .before .before .before .before .before .before .before .before .before .before .before .before .before .before .before .before .before .before .before .before .before .before .before .before .before .before .before .before .before .before .before .before .before .args) .document .now) (length ((c .before .before .before .before .before .before .before .before .before .before .before .before .before .before .before .before .before .before .before .before .before .before .before .before .before .before .before .before .before .before .before .before .before .before .before .args) .store .now)) (length ((c .before .before .before .before .before .before .before .before .before .before .before .before .before .before .before .before .before .before .before .before .before .before .before .before .before .before .before .before .before .before .before .before .before .before .before .args) .work .now)) ((c .before .before .before .before .before .before .before .before .before .before .before .before .before .before .before .before .before .before .before .before .before .before .before .before .before .before .before .before .before .before .before .before .before .before .before .args) .out .now) ((c .before .before .before .before .before .before .before .before .before .before .before .before .before .before .before .before .before .before .before .before .before .before .before .before .before .before .before .before .before .before .before .before .before .before .before .pre) .0) ((c .before .before .before .before .before .before .before .before .before .before .before .before .before .before .before .before .before .before .before .before .before .before .draft-page) .ensures) ((c .before .before .before .before .before .before .before .before .before .before .before .before .before .if1) .left) (rw (q .1 .1 .0, q .1 .1 .1 .0) at ((c .before .before .before .before .before .before .write-page) .ensures)), (c .before .before .before .before .before .before .write-page) .kept .1 .1 .0 ∙ (c .before .before .before .before .before .before .before .before .before .before .before .before .before .before .before .before .before .before .before .before .before .before .draft-page) .kept .1 .1 .0, (c .before .before .before .before .before .before .write-page) .kept .1 .1 .1 .0 ∙ (c .before .before .before .before .before .before .before .before .before .before .before .before .before .before .before .before .before .before .before .before .before .before .draft-page) .kept .1 .1 .1 .0)
 
 pub page-in-spec : {M : Type 1} → statement M
 page-in-spec =

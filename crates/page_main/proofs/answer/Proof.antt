@@ -27,16 +27,16 @@ enum-known-r c = search needs
 
 put-refusal-requires : tie.Need-put-refusal-requires
 put-refusal-requires c κs =
-    let k = (c .before .before .before .before .before .before .page) .kept .1 .1 .1 .0 in
+    let k = (c .before .before .before .before .before .before .page) .kept .1 .1 .1 .1 .0 in
     refusal-room ((c .before .before .r) .given .0 .0) (omega arith)
 
 returns : tie.Need-returns
 returns c =
-    answer-accepts (search needs) ((c .before .before .before .before .before .page) .kept .1 .1 .1 .0) (rw ((c .before .n) .given .1) at ((c .before .before .before .before .before .page) .ensures .0))
+    answer-accepts (search needs) ((c .before .before .before .before .before .page) .kept .1 .1 .1 .1 .0) (rw ((c .before .n) .given .1) at ((c .before .before .before .before .before .page) .ensures .0))
 
 returns-2 : tie.Need-returns-2
 returns-2 c =
-    answer-refuses (search needs) ((c .before .before .before .before .before .before .before .page) .kept .1 .1 .1 .0) ((c .put-refusal) .kept .1 .0) (rw ((c .before .before .before .r) .given .1) at ((c .before .before .before .before .before .before .before .page) .ensures .0)) ((c .put-refusal) .ensures)
+    answer-refuses (search needs) ((c .before .before .before .before .before .before .before .page) .kept .1 .1 .1 .1 .0) ((c .put-refusal) .kept .1 .0) (rw ((c .before .before .before .r) .given .1) at ((c .before .before .before .before .before .before .before .page) .ensures .0)) ((c .put-refusal) .ensures)
 
 pub answer-spec : {M : Type 1} → statement M
 answer-spec =

@@ -54,25 +54,25 @@ use Rattle.print.proofs.+print_matrix+print_node+print_nodes+print_one+
 use Rattle.print.proofs.+print_matrix+print_node+print_nodes+print_one+print_row+print_three+print_two.Tie.{close}
 
 abbrev μ-print-matrix : Measures 4 print-matrix-kinds.ps ℕ
-μ-print-matrix κs a = 3 * a .1 .1 .1 .1 .1 .0 + 2
+μ-print-matrix κs a = 3 * a .1 .1 .1 .1 .1 .1 .0 + 2
 
 abbrev μ-print-node : Measures 4 print-node-kinds.ps ℕ
-μ-print-node κs a = 3 * a .1 .1 .1 .1 .0
+μ-print-node κs a = 3 * a .1 .1 .1 .1 .1 .0
 
 abbrev μ-print-nodes : Measures 4 print-nodes-kinds.ps ℕ
-μ-print-nodes κs a = 3 * a .1 .1 .1 .1 .1 .0 + 1
+μ-print-nodes κs a = 3 * a .1 .1 .1 .1 .1 .1 .0 + 1
 
 abbrev μ-print-one : Measures 4 print-one-kinds.ps ℕ
-μ-print-one κs a = 3 * a .1 .1 .1 .1 .0 + 1
+μ-print-one κs a = 3 * a .1 .1 .1 .1 .1 .0 + 1
 
 abbrev μ-print-row : Measures 4 print-row-kinds.ps ℕ
-μ-print-row κs a = 3 * a .1 .1 .1 .1 .0 + 2
+μ-print-row κs a = 3 * a .1 .1 .1 .1 .1 .0 + 2
 
 abbrev μ-print-three : Measures 4 print-three-kinds.ps ℕ
-μ-print-three κs a = 3 * a .1 .1 .1 .1 .1 .1 .0 + 1
+μ-print-three κs a = 3 * a .1 .1 .1 .1 .1 .1 .1 .0 + 1
 
 abbrev μ-print-two : Measures 4 print-two-kinds.ps ℕ
-μ-print-two κs a = 3 * a .1 .1 .1 .1 .1 .0 + 1
+μ-print-two κs a = 3 * a .1 .1 .1 .1 .1 .1 .0 + 1
 
 abbrev print-matrix-at : ℕ → In 4 print-matrix-kinds.ps
 print-matrix-at t =
@@ -161,12 +161,12 @@ print-two-calls t = (put-front-two-reads.Asked, put-front-two-reads.Learnt, prin
 
 print-matrix-put-front-matrix-requires : (t : ℕ) → print-matrix-lts.Need-put-front-matrix-requires (print-matrix-calls t) (print-matrix-at t) print-matrix.Post
 print-matrix-put-front-matrix-requires t c κs =
-    between-front (matrix-shown ((c .before .before .before .before .args) .s .now) ((c .before .before .before .before .args) .align)) ((c .before .before .before .before .pre) .1 .0)
+    between-front (matrix-shown ((c .before .before .before .before .args) .dialect) ((c .before .before .before .before .args) .s .now) ((c .before .before .before .before .args) .align)) ((c .before .before .before .before .pre) .1 .0)
 
 print-matrix-print-nodes-requires : (t : ℕ) → print-matrix-lts.Need-print-nodes-requires (print-matrix-calls t) (print-matrix-at t) print-matrix.Post
 print-matrix-print-nodes-requires t c κs =
     let pre = c .before .before .before .before .before .before .before .before .pre in
-    (omega arith, (between-inner (matrix-shown ((c .before .before .before .before .before .before .before .before .args) .s .now) ((c .before .before .before .before .before .before .before .before .args) .align)) (pre .1 .0) ((c .before .before .before .put-front-matrix) .ensures), pre .1 .1))
+    (omega arith, (between-inner (matrix-shown ((c .before .before .before .before .before .before .before .before .args) .dialect) ((c .before .before .before .before .before .before .before .before .args) .s .now) ((c .before .before .before .before .before .before .before .before .args) .align)) (pre .1 .0) ((c .before .before .before .put-front-matrix) .ensures), pre .1 .1))
 
 print-matrix-slice-aggregate-put : (t : ℕ) → print-matrix-lts.Need-slice-aggregate-put (print-matrix-calls t) (print-matrix-at t) print-matrix.Post
 print-matrix-slice-aggregate-put t c = search needs
@@ -174,7 +174,7 @@ print-matrix-slice-aggregate-put t c = search needs
 print-matrix-put-requires : (t : ℕ) → print-matrix-lts.Need-put-requires (print-matrix-calls t) (print-matrix-at t) print-matrix.Post
 unfolding text-opens
 print-matrix-put-requires t c κs =
-    between-back (matrix-shown ((c .before .before .before .before .before .before .before .before .before .before .before .before .before .args) .s .now) ((c .before .before .before .before .before .before .before .before .before .before .before .before .before .args) .align)) ((c .before .before .before .before .before .before .before .before .before .before .before .before .before .pre) .1 .0) ((c .before .before .before .before .before .before .before .before .put-front-matrix) .ensures) ((c .before .before .before .before .print-nodes) .ensures)
+    between-back (matrix-shown ((c .before .before .before .before .before .before .before .before .before .before .before .before .before .args) .dialect) ((c .before .before .before .before .before .before .before .before .before .before .before .before .before .args) .s .now) ((c .before .before .before .before .before .before .before .before .before .before .before .before .before .args) .align)) ((c .before .before .before .before .before .before .before .before .before .before .before .before .before .pre) .1 .0) ((c .before .before .before .before .before .before .before .before .put-front-matrix) .ensures) ((c .before .before .before .before .print-nodes) .ensures)
 
 print-matrix-same-length : (t : ℕ) → print-matrix-lts.Need-same-length (print-matrix-calls t) (print-matrix-at t) print-matrix.Post
 print-matrix-same-length t c = search needs
@@ -182,7 +182,7 @@ print-matrix-same-length t c = search needs
 print-matrix-returns : (t : ℕ) → print-matrix-lts.Need-returns (print-matrix-calls t) (print-matrix-at t) print-matrix.Post
 unfolding text-opens
 print-matrix-returns t c =
-    between-prints (matrix-shown ((c .before .before .before .before .before .before .before .before .before .before .before .before .before .before .before .before .args) .s .now) ((c .before .before .before .before .before .before .before .before .before .before .before .before .before .before .before .before .args) .align)) ((c .before .before .before .before .before .before .before .before .before .before .before .put-front-matrix) .ensures) ((c .before .before .before .before .before .before .before .print-nodes) .ensures) ((c .before .before .put) .ensures)
+    between-prints (matrix-shown ((c .before .before .before .before .before .before .before .before .before .before .before .before .before .before .before .before .args) .dialect) ((c .before .before .before .before .before .before .before .before .before .before .before .before .before .before .before .before .args) .s .now) ((c .before .before .before .before .before .before .before .before .before .before .before .before .before .before .before .before .args) .align)) ((c .before .before .before .before .before .before .before .before .before .before .before .put-front-matrix) .ensures) ((c .before .before .before .before .before .before .before .print-nodes) .ensures) ((c .before .before .put) .ensures)
 
 print-node-get-record-requires : (t : ℕ) → print-node-lts.Need-get-record-requires (print-node-calls t) (print-node-at t) print-node.Post
 print-node-get-record-requires t c κs = (c .before .before .before .pre) .1 .0 .there .fits
@@ -196,7 +196,7 @@ print-node-enum-known-l t c = search needs
 print-node-put-leaf-requires : (t : ℕ) → print-node-lts.Need-put-leaf-requires (print-node-calls t) (print-node-at t) print-node.Post
 unfolding shown print
 print-node-put-leaf-requires t c κs =
-    let p = able-like (of-kind ((c .before .before .before .before .before .before .before .before .before .args) .place) (Shape.Leaf _) ((c .before .before .before .before .before .get-record) .ensures .0) ((c .before .before .before .before .shape-of) .ensures) ((c .before .before .l) .given .1)) ((c .before .before .before .before .before .before .before .before .before .pre) .1 .0) in
+    let p = able-like (of-kind ((c .before .before .before .before .before .before .before .before .before .args) .dialect) ((c .before .before .before .before .before .before .before .before .before .args) .place) (Shape.Leaf _) ((c .before .before .before .before .before .get-record) .ensures .0) ((c .before .before .before .before .shape-of) .ensures) ((c .before .before .l) .given .1)) ((c .before .before .before .before .before .before .before .before .before .pre) .1 .0) in
     (p .there, p .room, (c .before .before .before .before .before .before .before .before .before .pre) .1 .1)
 
 print-node-enum-known-k : (t : ℕ) → print-node-lts.Need-enum-known-k (print-node-calls t) (print-node-at t) print-node.Post
@@ -210,7 +210,7 @@ print-node-sub-print-one t c =
 print-node-print-one-requires : (t : ℕ) → print-node-lts.Need-print-one-requires (print-node-calls t) (print-node-at t) print-node.Post
 print-node-print-one-requires t c κs =
     let pre = c .before .before .before .before .before .before .before .before .before .pre in
-    (omega arith, (able-like (of-kind ((c .before .before .before .before .before .before .before .before .before .args) .place) (Shape.One _) ((c .before .before .before .before .before .get-record) .ensures .0) ((c .before .before .before .before .shape-of) .ensures) ((c .before .before .k) .given .1)) (pre .1 .0), pre .1 .1))
+    (omega arith, (able-like (of-kind ((c .before .before .before .before .before .before .before .before .before .args) .dialect) ((c .before .before .before .before .before .before .before .before .before .args) .place) (Shape.One _) ((c .before .before .before .before .before .get-record) .ensures .0) ((c .before .before .before .before .shape-of) .ensures) ((c .before .before .k) .given .1)) (pre .1 .0), pre .1 .1))
 
 print-node-enum-known-k-2 : (t : ℕ) → print-node-lts.Need-enum-known-k-2 (print-node-calls t) (print-node-at t) print-node.Post
 print-node-enum-known-k-2 t c = search needs
@@ -223,7 +223,7 @@ print-node-sub-print-two t c =
 print-node-print-two-requires : (t : ℕ) → print-node-lts.Need-print-two-requires (print-node-calls t) (print-node-at t) print-node.Post
 print-node-print-two-requires t c κs =
     let pre = c .before .before .before .before .before .before .before .before .before .pre in
-    (omega arith, (able-like (of-kind ((c .before .before .before .before .before .before .before .before .before .args) .place) (Shape.Two _) ((c .before .before .before .before .before .get-record) .ensures .0) ((c .before .before .before .before .shape-of) .ensures) ((c .before .before .k2) .given .1)) (pre .1 .0), pre .1 .1))
+    (omega arith, (able-like (of-kind ((c .before .before .before .before .before .before .before .before .before .args) .dialect) ((c .before .before .before .before .before .before .before .before .before .args) .place) (Shape.Two _) ((c .before .before .before .before .before .get-record) .ensures .0) ((c .before .before .before .before .shape-of) .ensures) ((c .before .before .k2) .given .1)) (pre .1 .0), pre .1 .1))
 
 print-node-enum-known-k-3 : (t : ℕ) → print-node-lts.Need-enum-known-k-3 (print-node-calls t) (print-node-at t) print-node.Post
 print-node-enum-known-k-3 t c = search needs
@@ -236,7 +236,7 @@ print-node-sub-print-three t c =
 print-node-print-three-requires : (t : ℕ) → print-node-lts.Need-print-three-requires (print-node-calls t) (print-node-at t) print-node.Post
 print-node-print-three-requires t c κs =
     let pre = c .before .before .before .before .before .before .before .before .before .pre in
-    (omega arith, (able-like (of-kind ((c .before .before .before .before .before .before .before .before .before .args) .place) (Shape.Three _) ((c .before .before .before .before .before .get-record) .ensures .0) ((c .before .before .before .before .shape-of) .ensures) ((c .before .before .k3) .given .1)) (pre .1 .0), pre .1 .1))
+    (omega arith, (able-like (of-kind ((c .before .before .before .before .before .before .before .before .before .args) .dialect) ((c .before .before .before .before .before .before .before .before .before .args) .place) (Shape.Three _) ((c .before .before .before .before .before .get-record) .ensures .0) ((c .before .before .before .before .shape-of) .ensures) ((c .before .before .k3) .given .1)) (pre .1 .0), pre .1 .1))
 
 print-node-enum-known-n : (t : ℕ) → print-node-lts.Need-enum-known-n (print-node-calls t) (print-node-at t) print-node.Post
 print-node-enum-known-n t c = search needs
@@ -249,7 +249,7 @@ print-node-sub-print-row t c =
 print-node-print-row-requires : (t : ℕ) → print-node-lts.Need-print-row-requires (print-node-calls t) (print-node-at t) print-node.Post
 print-node-print-row-requires t c κs =
     let pre = c .before .before .before .before .before .before .before .before .before .pre in
-    (omega arith, (able-like (of-kind ((c .before .before .before .before .before .before .before .before .before .args) .place) (Shape.Row _) ((c .before .before .before .before .before .get-record) .ensures .0) ((c .before .before .before .before .shape-of) .ensures) ((c .before .before .n) .given .1)) (pre .1 .0), pre .1 .1))
+    (omega arith, (able-like (of-kind ((c .before .before .before .before .before .before .before .before .before .args) .dialect) ((c .before .before .before .before .before .before .before .before .before .args) .place) (Shape.Row _) ((c .before .before .before .before .before .get-record) .ensures .0) ((c .before .before .before .before .shape-of) .ensures) ((c .before .before .n) .given .1)) (pre .1 .0), pre .1 .1))
 
 print-node-enum-known-align : (t : ℕ) → print-node-lts.Need-enum-known-align (print-node-calls t) (print-node-at t) print-node.Post
 print-node-enum-known-align t c = search needs
@@ -262,7 +262,7 @@ print-node-sub-print-matrix t c =
 print-node-print-matrix-requires : (t : ℕ) → print-node-lts.Need-print-matrix-requires (print-node-calls t) (print-node-at t) print-node.Post
 print-node-print-matrix-requires t c κs =
     let pre = c .before .before .before .before .before .before .before .before .before .pre in
-    (omega arith, (able-like (of-kind ((c .before .before .before .before .before .before .before .before .before .args) .place) (Shape.Matrix _ _) ((c .before .before .before .before .before .get-record) .ensures .0) ((c .before .before .before .before .shape-of) .ensures) ((c .before .before .align) .given .1)) (pre .1 .0), pre .1 .1))
+    (omega arith, (able-like (of-kind ((c .before .before .before .before .before .before .before .before .before .args) .dialect) ((c .before .before .before .before .before .before .before .before .before .args) .place) (Shape.Matrix _ _) ((c .before .before .before .before .before .get-record) .ensures .0) ((c .before .before .before .before .shape-of) .ensures) ((c .before .before .align) .given .1)) (pre .1 .0), pre .1 .1))
 
 print-node-same-length : (t : ℕ) → print-node-lts.Need-same-length (print-node-calls t) (print-node-at t) print-node.Post
 print-node-same-length t c = search needs
@@ -270,49 +270,49 @@ print-node-same-length t c = search needs
 print-node-returns : (t : ℕ) → print-node-lts.Need-returns (print-node-calls t) (print-node-at t) print-node.Post
 unfolding shown print
 print-node-returns t c =
-    prints-like (of-kind ((c .before .before .before .before .before .before .before .before .before .before .before .before .args) .place) (Shape.Leaf _) ((c .before .before .before .before .before .before .before .before .get-record) .ensures .0) ((c .before .before .before .before .before .before .before .shape-of) .ensures) ((c .before .before .before .before .before .l) .given .1)) (record { all = λ t h room. (c .before .before .put-leaf) .ensures })
+    prints-like (of-kind ((c .before .before .before .before .before .before .before .before .before .before .before .before .args) .dialect) ((c .before .before .before .before .before .before .before .before .before .before .before .before .args) .place) (Shape.Leaf _) ((c .before .before .before .before .before .before .before .before .get-record) .ensures .0) ((c .before .before .before .before .before .before .before .shape-of) .ensures) ((c .before .before .before .before .before .l) .given .1)) (record { all = λ t h room. (c .before .before .put-leaf) .ensures })
 
 print-node-same-length-2 : (t : ℕ) → print-node-lts.Need-same-length-2 (print-node-calls t) (print-node-at t) print-node.Post
 print-node-same-length-2 t c = search needs
 
 print-node-returns-2 : (t : ℕ) → print-node-lts.Need-returns-2 (print-node-calls t) (print-node-at t) print-node.Post
 print-node-returns-2 t c =
-    prints-like (of-kind ((c .before .before .before .before .before .before .before .before .before .before .before .before .args) .place) (Shape.One _) ((c .before .before .before .before .before .before .before .before .get-record) .ensures .0) ((c .before .before .before .before .before .before .before .shape-of) .ensures) ((c .before .before .before .before .before .k) .given .1)) ((c .before .before .print-one) .ensures)
+    prints-like (of-kind ((c .before .before .before .before .before .before .before .before .before .before .before .before .args) .dialect) ((c .before .before .before .before .before .before .before .before .before .before .before .before .args) .place) (Shape.One _) ((c .before .before .before .before .before .before .before .before .get-record) .ensures .0) ((c .before .before .before .before .before .before .before .shape-of) .ensures) ((c .before .before .before .before .before .k) .given .1)) ((c .before .before .print-one) .ensures)
 
 print-node-same-length-3 : (t : ℕ) → print-node-lts.Need-same-length-3 (print-node-calls t) (print-node-at t) print-node.Post
 print-node-same-length-3 t c = search needs
 
 print-node-returns-3 : (t : ℕ) → print-node-lts.Need-returns-3 (print-node-calls t) (print-node-at t) print-node.Post
 print-node-returns-3 t c =
-    prints-like (of-kind ((c .before .before .before .before .before .before .before .before .before .before .before .before .args) .place) (Shape.Two _) ((c .before .before .before .before .before .before .before .before .get-record) .ensures .0) ((c .before .before .before .before .before .before .before .shape-of) .ensures) ((c .before .before .before .before .before .k2) .given .1)) ((c .before .before .print-two) .ensures)
+    prints-like (of-kind ((c .before .before .before .before .before .before .before .before .before .before .before .before .args) .dialect) ((c .before .before .before .before .before .before .before .before .before .before .before .before .args) .place) (Shape.Two _) ((c .before .before .before .before .before .before .before .before .get-record) .ensures .0) ((c .before .before .before .before .before .before .before .shape-of) .ensures) ((c .before .before .before .before .before .k2) .given .1)) ((c .before .before .print-two) .ensures)
 
 print-node-same-length-4 : (t : ℕ) → print-node-lts.Need-same-length-4 (print-node-calls t) (print-node-at t) print-node.Post
 print-node-same-length-4 t c = search needs
 
 print-node-returns-4 : (t : ℕ) → print-node-lts.Need-returns-4 (print-node-calls t) (print-node-at t) print-node.Post
 print-node-returns-4 t c =
-    prints-like (of-kind ((c .before .before .before .before .before .before .before .before .before .before .before .before .args) .place) (Shape.Three _) ((c .before .before .before .before .before .before .before .before .get-record) .ensures .0) ((c .before .before .before .before .before .before .before .shape-of) .ensures) ((c .before .before .before .before .before .k3) .given .1)) ((c .before .before .print-three) .ensures)
+    prints-like (of-kind ((c .before .before .before .before .before .before .before .before .before .before .before .before .args) .dialect) ((c .before .before .before .before .before .before .before .before .before .before .before .before .args) .place) (Shape.Three _) ((c .before .before .before .before .before .before .before .before .get-record) .ensures .0) ((c .before .before .before .before .before .before .before .shape-of) .ensures) ((c .before .before .before .before .before .k3) .given .1)) ((c .before .before .print-three) .ensures)
 
 print-node-same-length-5 : (t : ℕ) → print-node-lts.Need-same-length-5 (print-node-calls t) (print-node-at t) print-node.Post
 print-node-same-length-5 t c = search needs
 
 print-node-returns-5 : (t : ℕ) → print-node-lts.Need-returns-5 (print-node-calls t) (print-node-at t) print-node.Post
 print-node-returns-5 t c =
-    prints-like (of-kind ((c .before .before .before .before .before .before .before .before .before .before .before .before .args) .place) (Shape.Row _) ((c .before .before .before .before .before .before .before .before .get-record) .ensures .0) ((c .before .before .before .before .before .before .before .shape-of) .ensures) ((c .before .before .before .before .before .n) .given .1)) ((c .before .before .print-row) .ensures)
+    prints-like (of-kind ((c .before .before .before .before .before .before .before .before .before .before .before .before .args) .dialect) ((c .before .before .before .before .before .before .before .before .before .before .before .before .args) .place) (Shape.Row _) ((c .before .before .before .before .before .before .before .before .get-record) .ensures .0) ((c .before .before .before .before .before .before .before .shape-of) .ensures) ((c .before .before .before .before .before .n) .given .1)) ((c .before .before .print-row) .ensures)
 
 print-node-same-length-6 : (t : ℕ) → print-node-lts.Need-same-length-6 (print-node-calls t) (print-node-at t) print-node.Post
 print-node-same-length-6 t c = search needs
 
 print-node-returns-6 : (t : ℕ) → print-node-lts.Need-returns-6 (print-node-calls t) (print-node-at t) print-node.Post
 print-node-returns-6 t c =
-    prints-like (of-kind ((c .before .before .before .before .before .before .before .before .before .before .before .before .args) .place) (Shape.Matrix _ _) ((c .before .before .before .before .before .before .before .before .get-record) .ensures .0) ((c .before .before .before .before .before .before .before .shape-of) .ensures) ((c .before .before .before .before .before .align) .given .1)) ((c .before .before .print-matrix) .ensures)
+    prints-like (of-kind ((c .before .before .before .before .before .before .before .before .before .before .before .before .args) .dialect) ((c .before .before .before .before .before .before .before .before .before .before .before .before .args) .place) (Shape.Matrix _ _) ((c .before .before .before .before .before .before .before .before .get-record) .ensures .0) ((c .before .before .before .before .before .before .before .shape-of) .ensures) ((c .before .before .before .before .before .align) .given .1)) ((c .before .before .print-matrix) .ensures)
 
 abbrev print-nodes-Inv-loop : print-nodes-lts.InvT-loop
-print-nodes-Inv-loop place s store a n left out₀ at table i₀ todo₀ end₀ out i todo end =
-    (length out ≡ length out₀) × Going s store left place a n out₀ at i todo out end
+print-nodes-Inv-loop dialect place s store a n left out₀ at table i₀ todo₀ end₀ out i todo end =
+    (length out ≡ length out₀) × Going dialect s store left place a n out₀ at i todo out end
 
 abbrev print-nodes-μ-loop : print-nodes-lts.MeasureT-loop
-print-nodes-μ-loop place s store a n left out₀ at table i₀ todo₀ end₀ out i todo end = todo
+print-nodes-μ-loop dialect place s store a n left out₀ at table i₀ todo₀ end₀ out i todo end = todo
 
 print-nodes-loop-holds : (t : ℕ) → print-nodes-lts.Need-loop-holds (print-nodes-calls t) (print-nodes-at t) print-nodes.Post print-nodes-Inv-loop print-nodes-μ-loop
 print-nodes-loop-holds t c = (refl, going-start ((c .before .before .before .pre) .1 .0))
@@ -337,7 +337,7 @@ print-nodes-loop-less t c = search needs
 print-nodes-loop-again : (t : ℕ) → print-nodes-lts.Need-loop-again (print-nodes-calls t) (print-nodes-at t) print-nodes.Post print-nodes-Inv-loop print-nodes-μ-loop
 print-nodes-loop-again t c =
     let some = (c .before .before .before .before .before .loop-test) .taken in (
-      (c .before .before .before .print-node) .kept .1 .1 .1 .1 .1 .0 ∙ (c .before .before .before .before .before .before .loop) .inv .0,
+      (c .before .before .before .print-node) .kept .1 .1 .1 .1 .1 .1 .0 ∙ (c .before .before .before .before .before .before .loop) .inv .0,
       rw ((c .get-next) .ensures .0) (going-next ((c .before .before .before .before .before .before .loop) .inv .1) (omega arith) ((c .before .before .before .print-node) .ensures)),
     )
 
@@ -349,7 +349,7 @@ print-nodes-returns t c = going-done ((c .before .loop) .inv .1) (omega arith)
 
 print-one-put-front-one-requires : (t : ℕ) → print-one-lts.Need-put-front-one-requires (print-one-calls t) (print-one-at t) print-one.Post
 print-one-put-front-one-requires t c κs =
-    between-front (one-shown ((c .before .before .before .before .args) .s .now) ((c .before .before .before .before .args) .k)) ((c .before .before .before .before .pre) .1 .0)
+    between-front (one-shown ((c .before .before .before .before .args) .dialect) ((c .before .before .before .before .args) .s .now) ((c .before .before .before .before .args) .k)) ((c .before .before .before .before .pre) .1 .0)
 
 print-one-place-of-requires : (t : ℕ) → print-one-lts.Need-place-of-requires (print-one-calls t) (print-one-at t) print-one.Post
 print-one-place-of-requires t c κs = search needs
@@ -357,18 +357,18 @@ print-one-place-of-requires t c κs = search needs
 print-one-print-node-requires : (t : ℕ) → print-one-lts.Need-print-node-requires (print-one-calls t) (print-one-at t) print-one.Post
 print-one-print-node-requires t c κs =
     let pre = c .before .before .before .before .before .before .before .before .before .pre in
-    (omega arith, (rw ((c .before .place-of) .ensures) (between-inner (one-shown ((c .before .before .before .before .before .before .before .before .before .args) .s .now) ((c .before .before .before .before .before .before .before .before .before .args) .k)) (pre .1 .0) ((c .before .before .before .before .put-front-one) .ensures)), pre .1 .1))
+    (omega arith, (rw ((c .before .place-of) .ensures) (between-inner (one-shown ((c .before .before .before .before .before .before .before .before .before .args) .dialect) ((c .before .before .before .before .before .before .before .before .before .args) .s .now) ((c .before .before .before .before .before .before .before .before .before .args) .k)) (pre .1 .0) ((c .before .before .before .before .put-front-one) .ensures)), pre .1 .1))
 
 print-one-put-back-one-requires : (t : ℕ) → print-one-lts.Need-put-back-one-requires (print-one-calls t) (print-one-at t) print-one.Post
 print-one-put-back-one-requires t c κs =
-    between-back (one-shown ((c .before .before .before .before .before .before .before .before .before .before .before .before .before .args) .s .now) ((c .before .before .before .before .before .before .before .before .before .before .before .before .before .args) .k)) ((c .before .before .before .before .before .before .before .before .before .before .before .before .before .pre) .1 .0) ((c .before .before .before .before .before .before .before .before .put-front-one) .ensures) (rw ((c .before .before .before .before .before .place-of) .ensures) at ((c .before .before .before .print-node) .ensures))
+    between-back (one-shown ((c .before .before .before .before .before .before .before .before .before .before .before .before .before .args) .dialect) ((c .before .before .before .before .before .before .before .before .before .before .before .before .before .args) .s .now) ((c .before .before .before .before .before .before .before .before .before .before .before .before .before .args) .k)) ((c .before .before .before .before .before .before .before .before .before .before .before .before .before .pre) .1 .0) ((c .before .before .before .before .before .before .before .before .put-front-one) .ensures) (rw ((c .before .before .before .before .before .place-of) .ensures) at ((c .before .before .before .print-node) .ensures))
 
 print-one-same-length : (t : ℕ) → print-one-lts.Need-same-length (print-one-calls t) (print-one-at t) print-one.Post
 print-one-same-length t c = search needs
 
 print-one-returns : (t : ℕ) → print-one-lts.Need-returns (print-one-calls t) (print-one-at t) print-one.Post
 print-one-returns t c =
-    between-prints (one-shown ((c .before .before .before .before .before .before .before .before .before .before .before .before .before .before .before .before .args) .s .now) ((c .before .before .before .before .before .before .before .before .before .before .before .before .before .before .before .before .args) .k)) ((c .before .before .before .before .before .before .before .before .before .before .before .put-front-one) .ensures) (rw ((c .before .before .before .before .before .before .before .before .place-of) .ensures) at ((c .before .before .before .before .before .before .print-node) .ensures)) ((c .before .before .put-back-one) .ensures)
+    between-prints (one-shown ((c .before .before .before .before .before .before .before .before .before .before .before .before .before .before .before .before .args) .dialect) ((c .before .before .before .before .before .before .before .before .before .before .before .before .before .before .before .before .args) .s .now) ((c .before .before .before .before .before .before .before .before .before .before .before .before .before .before .before .before .args) .k)) ((c .before .before .before .before .before .before .before .before .before .before .before .put-front-one) .ensures) (rw ((c .before .before .before .before .before .before .before .before .place-of) .ensures) at ((c .before .before .before .before .before .before .print-node) .ensures)) ((c .before .before .put-back-one) .ensures)
 
 print-row-slice-aggregate-put : (t : ℕ) → print-row-lts.Need-slice-aggregate-put (print-row-calls t) (print-row-at t) print-row.Post
 print-row-slice-aggregate-put t c = search needs
@@ -376,13 +376,13 @@ print-row-slice-aggregate-put t c = search needs
 print-row-put-requires : (t : ℕ) → print-row-lts.Need-put-requires (print-row-calls t) (print-row-at t) print-row.Post
 unfolding text-opens
 print-row-put-requires t c κs =
-    between-front (row-shown ((c .before .before .before .before .before .args) .s .now)) ((c .before .before .before .before .before .pre) .1 .0)
+    between-front (row-shown ((c .before .before .before .before .before .args) .dialect) ((c .before .before .before .before .before .args) .s .now)) ((c .before .before .before .before .before .pre) .1 .0)
 
 print-row-print-nodes-requires : (t : ℕ) → print-row-lts.Need-print-nodes-requires (print-row-calls t) (print-row-at t) print-row.Post
 unfolding text-opens
 print-row-print-nodes-requires t c κs =
     let pre = c .before .before .before .before .before .before .before .before .before .pre in
-    (omega arith, (between-inner (row-shown ((c .before .before .before .before .before .before .before .before .before .args) .s .now)) (pre .1 .0) ((c .before .before .before .put) .ensures), pre .1 .1))
+    (omega arith, (between-inner (row-shown ((c .before .before .before .before .before .before .before .before .before .args) .dialect) ((c .before .before .before .before .before .before .before .before .before .args) .s .now)) (pre .1 .0) ((c .before .before .before .put) .ensures), pre .1 .1))
 
 print-row-slice-aggregate-put-2 : (t : ℕ) → print-row-lts.Need-slice-aggregate-put-2 (print-row-calls t) (print-row-at t) print-row.Post
 print-row-slice-aggregate-put-2 t c = search needs
@@ -390,7 +390,7 @@ print-row-slice-aggregate-put-2 t c = search needs
 print-row-put-requires-2 : (t : ℕ) → print-row-lts.Need-put-requires-2 (print-row-calls t) (print-row-at t) print-row.Post
 unfolding text-opens
 print-row-put-requires-2 t c κs =
-    between-back (row-shown ((c .before .before .before .before .before .before .before .before .before .before .before .before .before .before .args) .s .now)) ((c .before .before .before .before .before .before .before .before .before .before .before .before .before .before .pre) .1 .0) ((c .before .before .before .before .before .before .before .before .put) .ensures) ((c .before .before .before .before .print-nodes) .ensures)
+    between-back (row-shown ((c .before .before .before .before .before .before .before .before .before .before .before .before .before .before .args) .dialect) ((c .before .before .before .before .before .before .before .before .before .before .before .before .before .before .args) .s .now)) ((c .before .before .before .before .before .before .before .before .before .before .before .before .before .before .pre) .1 .0) ((c .before .before .before .before .before .before .before .before .put) .ensures) ((c .before .before .before .before .print-nodes) .ensures)
 
 print-row-same-length : (t : ℕ) → print-row-lts.Need-same-length (print-row-calls t) (print-row-at t) print-row.Post
 print-row-same-length t c = search needs
@@ -398,64 +398,64 @@ print-row-same-length t c = search needs
 print-row-returns : (t : ℕ) → print-row-lts.Need-returns (print-row-calls t) (print-row-at t) print-row.Post
 unfolding text-opens
 print-row-returns t c =
-    between-prints (row-shown ((c .before .before .before .before .before .before .before .before .before .before .before .before .before .before .before .before .before .args) .s .now)) ((c .before .before .before .before .before .before .before .before .before .before .before .put) .ensures) ((c .before .before .before .before .before .before .before .print-nodes) .ensures) ((c .before .before .put2) .ensures)
+    between-prints (row-shown ((c .before .before .before .before .before .before .before .before .before .before .before .before .before .before .before .before .before .args) .dialect) ((c .before .before .before .before .before .before .before .before .before .before .before .before .before .before .before .before .before .args) .s .now)) ((c .before .before .before .before .before .before .before .before .before .before .before .put) .ensures) ((c .before .before .before .before .before .before .before .print-nodes) .ensures) ((c .before .before .put2) .ensures)
 
 print-three-put-front-three-requires : (t : ℕ) → print-three-lts.Need-put-front-three-requires (print-three-calls t) (print-three-at t) print-three.Post
 print-three-put-front-three-requires t c κs =
-    between-front (three-shown ((c .before .before .before .before .args) .s .now) ((c .before .before .before .before .args) .k)) ((c .before .before .before .before .pre) .1 .0)
+    between-front (three-shown ((c .before .before .before .before .args) .dialect) ((c .before .before .before .before .args) .s .now) ((c .before .before .before .before .args) .k)) ((c .before .before .before .before .pre) .1 .0)
 
 print-three-print-node-requires : (t : ℕ) → print-three-lts.Need-print-node-requires (print-three-calls t) (print-three-at t) print-three.Post
 print-three-print-node-requires t c κs =
     let pre = c .before .before .before .before .before .before .before .before .pre in
-    (omega arith, (three-first (between-inner (three-shown ((c .before .before .before .before .before .before .before .before .args) .s .now) ((c .before .before .before .before .before .before .before .before .args) .k)) (pre .1 .0) ((c .before .before .before .put-front-three) .ensures)), pre .1 .1))
+    (omega arith, (three-first ((c .before .before .before .before .before .before .before .before .args) .dialect) (between-inner (three-shown ((c .before .before .before .before .before .before .before .before .args) .dialect) ((c .before .before .before .before .before .before .before .before .args) .s .now) ((c .before .before .before .before .before .before .before .before .args) .k)) (pre .1 .0) ((c .before .before .before .put-front-three) .ensures)), pre .1 .1))
 
 print-three-print-node-requires-2 : (t : ℕ) → print-three-lts.Need-print-node-requires-2 (print-three-calls t) (print-three-at t) print-three.Post
 print-three-print-node-requires-2 t c κs =
     let pre = c .before .before .before .before .before .before .before .before .before .before .before .before .pre in
-    let others = three-others (between-inner (three-shown ((c .before .before .before .before .before .before .before .before .before .before .before .before .args) .s .now) ((c .before .before .before .before .before .before .before .before .before .before .before .before .args) .k)) (pre .1 .0) ((c .before .before .before .before .before .before .before .put-front-three) .ensures)) ((c .before .before .before .print-node) .ensures) in
-    (omega arith, (two-first others, pre .1 .1))
+    let others = three-others ((c .before .before .before .before .before .before .before .before .before .before .before .before .args) .dialect) (between-inner (three-shown ((c .before .before .before .before .before .before .before .before .before .before .before .before .args) .dialect) ((c .before .before .before .before .before .before .before .before .before .before .before .before .args) .s .now) ((c .before .before .before .before .before .before .before .before .before .before .before .before .args) .k)) (pre .1 .0) ((c .before .before .before .before .before .before .before .put-front-three) .ensures)) ((c .before .before .before .print-node) .ensures) in
+    (omega arith, (two-first ((c .before .before .before .before .before .before .before .before .before .before .before .before .args) .dialect) others, pre .1 .1))
 
 print-three-print-node-requires-3 : (t : ℕ) → print-three-lts.Need-print-node-requires-3 (print-three-calls t) (print-three-at t) print-three.Post
 print-three-print-node-requires-3 t c κs =
     let pre = c .before .before .before .before .before .before .before .before .before .before .before .before .before .before .before .before .pre in
-    let others = three-others (between-inner (three-shown ((c .before .before .before .before .before .before .before .before .before .before .before .before .before .before .before .before .args) .s .now) ((c .before .before .before .before .before .before .before .before .before .before .before .before .before .before .before .before .args) .k)) (pre .1 .0) ((c .before .before .before .before .before .before .before .before .before .before .before .put-front-three) .ensures)) ((c .before .before .before .before .before .before .before .print-node) .ensures) in
-    (omega arith, (two-second others ((c .before .before .before .print-node2) .ensures), pre .1 .1))
+    let others = three-others ((c .before .before .before .before .before .before .before .before .before .before .before .before .before .before .before .before .args) .dialect) (between-inner (three-shown ((c .before .before .before .before .before .before .before .before .before .before .before .before .before .before .before .before .args) .dialect) ((c .before .before .before .before .before .before .before .before .before .before .before .before .before .before .before .before .args) .s .now) ((c .before .before .before .before .before .before .before .before .before .before .before .before .before .before .before .before .args) .k)) (pre .1 .0) ((c .before .before .before .before .before .before .before .before .before .before .before .put-front-three) .ensures)) ((c .before .before .before .before .before .before .before .print-node) .ensures) in
+    (omega arith, (two-second ((c .before .before .before .before .before .before .before .before .before .before .before .before .before .before .before .before .args) .dialect) others ((c .before .before .before .print-node2) .ensures), pre .1 .1))
 
 print-three-put-back-three-requires : (t : ℕ) → print-three-lts.Need-put-back-three-requires (print-three-calls t) (print-three-at t) print-three.Post
 print-three-put-back-three-requires t c κs =
-    between-back (three-shown ((c .before .before .before .before .before .before .before .before .before .before .before .before .before .before .before .before .before .before .before .before .args) .s .now) ((c .before .before .before .before .before .before .before .before .before .before .before .before .before .before .before .before .before .before .before .before .args) .k)) ((c .before .before .before .before .before .before .before .before .before .before .before .before .before .before .before .before .before .before .before .before .pre) .1 .0) ((c .before .before .before .before .before .before .before .before .before .before .before .before .before .before .before .put-front-three) .ensures) (three-done ((c .before .before .before .before .before .before .before .before .before .before .before .print-node) .ensures) ((c .before .before .before .before .before .before .before .print-node2) .ensures) ((c .before .before .before .print-node3) .ensures))
+    between-back (three-shown ((c .before .before .before .before .before .before .before .before .before .before .before .before .before .before .before .before .before .before .before .before .args) .dialect) ((c .before .before .before .before .before .before .before .before .before .before .before .before .before .before .before .before .before .before .before .before .args) .s .now) ((c .before .before .before .before .before .before .before .before .before .before .before .before .before .before .before .before .before .before .before .before .args) .k)) ((c .before .before .before .before .before .before .before .before .before .before .before .before .before .before .before .before .before .before .before .before .pre) .1 .0) ((c .before .before .before .before .before .before .before .before .before .before .before .before .before .before .before .put-front-three) .ensures) (three-done ((c .before .before .before .before .before .before .before .before .before .before .before .before .before .before .before .before .before .before .before .before .args) .dialect) ((c .before .before .before .before .before .before .before .before .before .before .before .print-node) .ensures) ((c .before .before .before .before .before .before .before .print-node2) .ensures) ((c .before .before .before .print-node3) .ensures))
 
 print-three-same-length : (t : ℕ) → print-three-lts.Need-same-length (print-three-calls t) (print-three-at t) print-three.Post
 print-three-same-length t c = search needs
 
 print-three-returns : (t : ℕ) → print-three-lts.Need-returns (print-three-calls t) (print-three-at t) print-three.Post
 print-three-returns t c =
-    between-prints (three-shown ((c .before .before .before .before .before .before .before .before .before .before .before .before .before .before .before .before .before .before .before .before .before .before .before .args) .s .now) ((c .before .before .before .before .before .before .before .before .before .before .before .before .before .before .before .before .before .before .before .before .before .before .before .args) .k)) ((c .before .before .before .before .before .before .before .before .before .before .before .before .before .before .before .before .before .before .put-front-three) .ensures) (three-done ((c .before .before .before .before .before .before .before .before .before .before .before .before .before .before .print-node) .ensures) ((c .before .before .before .before .before .before .before .before .before .before .print-node2) .ensures) ((c .before .before .before .before .before .before .print-node3) .ensures)) ((c .before .before .put-back-three) .ensures)
+    between-prints (three-shown ((c .before .before .before .before .before .before .before .before .before .before .before .before .before .before .before .before .before .before .before .before .before .before .before .args) .dialect) ((c .before .before .before .before .before .before .before .before .before .before .before .before .before .before .before .before .before .before .before .before .before .before .before .args) .s .now) ((c .before .before .before .before .before .before .before .before .before .before .before .before .before .before .before .before .before .before .before .before .before .before .before .args) .k)) ((c .before .before .before .before .before .before .before .before .before .before .before .before .before .before .before .before .before .before .put-front-three) .ensures) (three-done ((c .before .before .before .before .before .before .before .before .before .before .before .before .before .before .before .before .before .before .before .before .before .before .before .args) .dialect) ((c .before .before .before .before .before .before .before .before .before .before .before .before .before .before .print-node) .ensures) ((c .before .before .before .before .before .before .before .before .before .before .print-node2) .ensures) ((c .before .before .before .before .before .before .print-node3) .ensures)) ((c .before .before .put-back-three) .ensures)
 
 print-two-put-front-two-requires : (t : ℕ) → print-two-lts.Need-put-front-two-requires (print-two-calls t) (print-two-at t) print-two.Post
 print-two-put-front-two-requires t c κs =
-    between-front (two-shown ((c .before .before .before .before .args) .s .now) ((c .before .before .before .before .args) .k)) ((c .before .before .before .before .pre) .1 .0)
+    between-front (two-shown ((c .before .before .before .before .args) .dialect) ((c .before .before .before .before .args) .s .now) ((c .before .before .before .before .args) .k)) ((c .before .before .before .before .pre) .1 .0)
 
 print-two-print-node-requires : (t : ℕ) → print-two-lts.Need-print-node-requires (print-two-calls t) (print-two-at t) print-two.Post
 print-two-print-node-requires t c κs =
     let pre = c .before .before .before .before .before .before .before .before .pre in
-    (omega arith, (two-first (between-inner (two-shown ((c .before .before .before .before .before .before .before .before .args) .s .now) ((c .before .before .before .before .before .before .before .before .args) .k)) (pre .1 .0) ((c .before .before .before .put-front-two) .ensures)), pre .1 .1))
+    (omega arith, (two-first ((c .before .before .before .before .before .before .before .before .args) .dialect) (between-inner (two-shown ((c .before .before .before .before .before .before .before .before .args) .dialect) ((c .before .before .before .before .before .before .before .before .args) .s .now) ((c .before .before .before .before .before .before .before .before .args) .k)) (pre .1 .0) ((c .before .before .before .put-front-two) .ensures)), pre .1 .1))
 
 print-two-print-node-requires-2 : (t : ℕ) → print-two-lts.Need-print-node-requires-2 (print-two-calls t) (print-two-at t) print-two.Post
 print-two-print-node-requires-2 t c κs =
     let pre = c .before .before .before .before .before .before .before .before .before .before .before .before .pre in
-    (omega arith, (two-second (between-inner (two-shown ((c .before .before .before .before .before .before .before .before .before .before .before .before .args) .s .now) ((c .before .before .before .before .before .before .before .before .before .before .before .before .args) .k)) (pre .1 .0) ((c .before .before .before .before .before .before .before .put-front-two) .ensures)) ((c .before .before .before .print-node) .ensures), pre .1 .1))
+    (omega arith, (two-second ((c .before .before .before .before .before .before .before .before .before .before .before .before .args) .dialect) (between-inner (two-shown ((c .before .before .before .before .before .before .before .before .before .before .before .before .args) .dialect) ((c .before .before .before .before .before .before .before .before .before .before .before .before .args) .s .now) ((c .before .before .before .before .before .before .before .before .before .before .before .before .args) .k)) (pre .1 .0) ((c .before .before .before .before .before .before .before .put-front-two) .ensures)) ((c .before .before .before .print-node) .ensures), pre .1 .1))
 
 print-two-put-back-two-requires : (t : ℕ) → print-two-lts.Need-put-back-two-requires (print-two-calls t) (print-two-at t) print-two.Post
 print-two-put-back-two-requires t c κs =
-    between-back (two-shown ((c .before .before .before .before .before .before .before .before .before .before .before .before .before .before .before .before .args) .s .now) ((c .before .before .before .before .before .before .before .before .before .before .before .before .before .before .before .before .args) .k)) ((c .before .before .before .before .before .before .before .before .before .before .before .before .before .before .before .before .pre) .1 .0) ((c .before .before .before .before .before .before .before .before .before .before .before .put-front-two) .ensures) (two-done ((c .before .before .before .before .before .before .before .print-node) .ensures) ((c .before .before .before .print-node2) .ensures))
+    between-back (two-shown ((c .before .before .before .before .before .before .before .before .before .before .before .before .before .before .before .before .args) .dialect) ((c .before .before .before .before .before .before .before .before .before .before .before .before .before .before .before .before .args) .s .now) ((c .before .before .before .before .before .before .before .before .before .before .before .before .before .before .before .before .args) .k)) ((c .before .before .before .before .before .before .before .before .before .before .before .before .before .before .before .before .pre) .1 .0) ((c .before .before .before .before .before .before .before .before .before .before .before .put-front-two) .ensures) (two-done ((c .before .before .before .before .before .before .before .before .before .before .before .before .before .before .before .before .args) .dialect) ((c .before .before .before .before .before .before .before .print-node) .ensures) ((c .before .before .before .print-node2) .ensures))
 
 print-two-same-length : (t : ℕ) → print-two-lts.Need-same-length (print-two-calls t) (print-two-at t) print-two.Post
 print-two-same-length t c = search needs
 
 print-two-returns : (t : ℕ) → print-two-lts.Need-returns (print-two-calls t) (print-two-at t) print-two.Post
 print-two-returns t c =
-    between-prints (two-shown ((c .before .before .before .before .before .before .before .before .before .before .before .before .before .before .before .before .before .before .before .args) .s .now) ((c .before .before .before .before .before .before .before .before .before .before .before .before .before .before .before .before .before .before .before .args) .k)) ((c .before .before .before .before .before .before .before .before .before .before .before .before .before .before .put-front-two) .ensures) (two-done ((c .before .before .before .before .before .before .before .before .before .before .print-node) .ensures) ((c .before .before .before .before .before .before .print-node2) .ensures)) ((c .before .before .put-back-two) .ensures)
+    between-prints (two-shown ((c .before .before .before .before .before .before .before .before .before .before .before .before .before .before .before .before .before .before .before .args) .dialect) ((c .before .before .before .before .before .before .before .before .before .before .before .before .before .before .before .before .before .before .before .args) .s .now) ((c .before .before .before .before .before .before .before .before .before .before .before .before .before .before .before .before .before .before .before .args) .k)) ((c .before .before .before .before .before .before .before .before .before .before .before .before .before .before .put-front-two) .ensures) (two-done ((c .before .before .before .before .before .before .before .before .before .before .before .before .before .before .before .before .before .before .before .args) .dialect) ((c .before .before .before .before .before .before .before .before .before .before .print-node) .ensures) ((c .before .before .before .before .before .before .print-node2) .ensures)) ((c .before .before .put-back-two) .ensures)
 
 pub +print-matrix+print-node+print-nodes+print-one+print-row+print-three+print-two-spec :
     {M : Type 1} → statement M

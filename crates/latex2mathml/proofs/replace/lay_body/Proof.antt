@@ -1,7 +1,7 @@
 -- `latex2mathml::replace::lay_body` meets its contract.
 use mathlib.Core.Path.{refl}
 use lib.ListN.{length}
-use Rattle.latex2mathml.proofs.TranslateLaws.{body-short, body-refused}
+use Rattle.latex2mathml.proofs.TranslateLaws.{body-refused}
 use Rattle.latex2mathml.proofs.BodyLaws.{few-nodes, measurable, show-sure, show-fitting, lay-sure, lay-small, lay-beyond, lay-fitting}
 use borrow.Author.Needs.{needs}
 use native.Mathlib.Omega.{arith}
@@ -11,10 +11,10 @@ use Rattle.latex2mathml.proofs.replace.lay_body.Reads as reads
 use Rattle.latex2mathml.proofs.replace.lay_body.Lts as lts
 use Rattle.latex2mathml.proofs.translate.math_len.Reads as math-len-reads
 use Rattle.latex2mathml.proofs.translate.put_math.Reads as put-math-reads
-use Rattle.parse.proofs.body.parse.Reads as parse-reads
+use Rattle.latex2mathml.proofs.translate.read_body.Reads as read-body-reads
 
-parse-requires : tie.Need-parse-requires
-parse-requires c κs = search needs
+read-body-requires : tie.Need-read-body-requires
+read-body-requires c κs = search needs
 
 enum-known-r : tie.Need-enum-known-r
 enum-known-r c = search needs
@@ -24,14 +24,14 @@ enum-known-first c = search needs
 
 cast-n : tie.Need-cast-n
 cast-n c =
-    let b = rw ((c .before .first) .given .1) at ((c .before .before .before .before .before .parse) .ensures) in
-    let f = few-nodes (length ((c .before .before .before .before .before .before .before .before .before .before .args) .store .now)) b (body-short ((c .before .before .before .before .before .before .before .before .before .before .args) .s .now) ((c .before .before .before .before .before .before .before .before .before .before .args) .display) (length ((c .before .before .before .before .before .before .before .before .before .before .args) .store .now)) (b .is)) in
+    let b = rw ((c .before .first) .given .1) at ((c .before .before .before .before .before .read-body) .ensures) in
+    let f = few-nodes ((c .before .before .before .before .before .before .before .before .before .before .args) .manner) (length ((c .before .before .before .before .before .before .before .before .before .before .args) .store .now)) b in
     omega arith
 
 put-math-requires : tie.Need-put-math-requires
 put-math-requires c κs =
-    let b = rw ((c .before .before .before .before .first) .given .1) at ((c .before .before .before .before .before .before .before .before .parse) .ensures) in
-    (show-sure (length ((c .before .before .before .before .before .before .before .before .before .before .before .before .before .args) .store .now)) b ((c .before .before .before .before .before .before .before .before .before .before .before .before .before .args) .display) ((c .before .before .before .before .before .before .before .before .before .before .before .before .before .args) .sure) ((c .before .before .before .before .before .before .before .before .before .before .before .before .before .args) .out .now) ((c .before .before .before .before .before .before .before .before .before .before .before .before .before .args) .at) ((c .before .before .before .before .before .before .before .before .before .before .before .before .before .pre) .0) ((c .before .before .if1) .taken), (c .before .before .before .before .before .before .before .before .before .before .before .before .before .pre) .1)
+    let b = rw ((c .before .before .before .before .first) .given .1) at ((c .before .before .before .before .before .before .before .before .read-body) .ensures) in
+    (show-sure ((c .before .before .before .before .before .before .before .before .before .before .before .before .before .args) .manner) (length ((c .before .before .before .before .before .before .before .before .before .before .before .before .before .args) .store .now)) b ((c .before .before .before .before .before .before .before .before .before .before .before .before .before .args) .display) ((c .before .before .before .before .before .before .before .before .before .before .before .before .before .args) .sure) ((c .before .before .before .before .before .before .before .before .before .before .before .before .before .args) .out .now) ((c .before .before .before .before .before .before .before .before .before .before .before .before .before .args) .at) ((c .before .before .before .before .before .before .before .before .before .before .before .before .before .pre) .0) ((c .before .before .if1) .taken), (c .before .before .before .before .before .before .before .before .before .before .before .before .before .pre) .1)
 
 same-length : tie.Need-same-length
 same-length c = search needs
@@ -41,18 +41,18 @@ same-length-2 c = search needs
 
 returns : tie.Need-returns
 returns c =
-    let b = rw ((c .before .before .before .before .before .before .before .first) .given .1) at ((c .before .before .before .before .before .before .before .before .before .before .before .parse) .ensures) in
-    lay-sure (length ((c .before .before .before .before .before .before .before .before .before .before .before .before .before .before .before .before .args) .store .now)) b ((c .before .before .before .before .before .before .before .before .before .before .before .before .before .before .before .before .args) .display) ((c .before .before .before .before .before .before .before .before .before .before .before .before .before .before .before .before .args) .sure) ((c .before .before .before .before .before .before .before .before .before .before .before .before .before .before .before .before .args) .out .now) ((c .before .before .before .before .before .before .before .before .before .before .before .before .before .before .before .before .args) .at) ((c .before .before .before .before .before .before .before .before .before .before .before .before .before .before .before .before .pre) .0) ((c .before .before .before .before .before .if1) .taken) ((c .before .before .put-math) .ensures)
+    let b = rw ((c .before .before .before .before .before .before .before .first) .given .1) at ((c .before .before .before .before .before .before .before .before .before .before .before .read-body) .ensures) in
+    lay-sure ((c .before .before .before .before .before .before .before .before .before .before .before .before .before .before .before .before .args) .manner) (length ((c .before .before .before .before .before .before .before .before .before .before .before .before .before .before .before .before .args) .store .now)) b ((c .before .before .before .before .before .before .before .before .before .before .before .before .before .before .before .before .args) .display) ((c .before .before .before .before .before .before .before .before .before .before .before .before .before .before .before .before .args) .sure) ((c .before .before .before .before .before .before .before .before .before .before .before .before .before .before .before .before .args) .out .now) ((c .before .before .before .before .before .before .before .before .before .before .before .before .before .before .before .before .args) .at) ((c .before .before .before .before .before .before .before .before .before .before .before .before .before .before .before .before .pre) .0) ((c .before .before .before .before .before .if1) .taken) ((c .before .before .put-math) .ensures)
 
 math-len-requires : tie.Need-math-len-requires
 math-len-requires c κs =
-    let b = rw ((c .before .before .before .first) .given .1) at ((c .before .before .before .before .before .before .before .parse) .ensures) in
-    (measurable (length ((c .before .before .before .before .before .before .before .before .before .before .before .before .args) .store .now)) b ((c .before .before .before .before .before .before .before .before .before .before .before .before .args) .display) (body-short ((c .before .before .before .before .before .before .before .before .before .before .before .before .args) .s .now) ((c .before .before .before .before .before .before .before .before .before .before .before .before .args) .display) (length ((c .before .before .before .before .before .before .before .before .before .before .before .before .args) .store .now)) (b .is)), (c .before .before .before .before .before .before .before .before .before .before .before .before .pre) .1)
+    let b = rw ((c .before .before .before .first) .given .1) at ((c .before .before .before .before .before .before .before .read-body) .ensures) in
+    (measurable ((c .before .before .before .before .before .before .before .before .before .before .before .before .args) .manner) (length ((c .before .before .before .before .before .before .before .before .before .before .before .before .args) .store .now)) b, (c .before .before .before .before .before .before .before .before .before .before .before .before .pre) .1)
 
 add-end : tie.Need-add-end
 add-end c =
-    let b = rw ((c .before .before .before .before .first) .given .1) at ((c .before .before .before .before .before .before .before .before .parse) .ensures) in
-    let z = lay-small (length ((c .before .before .before .before .before .before .before .before .before .before .before .before .before .args) .store .now)) b ((c .before .before .before .before .before .before .before .before .before .before .before .before .before .args) .display) ((c .before .before .before .before .before .before .before .before .before .before .before .before .before .args) .sure) ((c .before .before .before .before .before .before .before .before .before .before .before .before .before .args) .out .now) ((c .before .before .before .before .before .before .before .before .before .before .before .before .before .args) .at) ((c .before .before .before .before .before .before .before .before .before .before .before .before .before .pre) .0) ((c .math-len) .ensures) in
+    let b = rw ((c .before .before .before .before .first) .given .1) at ((c .before .before .before .before .before .before .before .before .read-body) .ensures) in
+    let z = lay-small ((c .before .before .before .before .before .before .before .before .before .before .before .before .before .args) .manner) (length ((c .before .before .before .before .before .before .before .before .before .before .before .before .before .args) .store .now)) b ((c .before .before .before .before .before .before .before .before .before .before .before .before .before .args) .display) ((c .before .before .before .before .before .before .before .before .before .before .before .before .before .args) .sure) ((c .before .before .before .before .before .before .before .before .before .before .before .before .before .args) .out .now) ((c .before .before .before .before .before .before .before .before .before .before .before .before .before .args) .at) ((c .before .before .before .before .before .before .before .before .before .before .before .before .before .pre) .0) ((c .math-len) .ensures) in
     omega arith
 
 same-length-3 : tie.Need-same-length-3
@@ -60,21 +60,21 @@ same-length-3 c = search needs
 
 returns-2 : tie.Need-returns-2
 returns-2 c =
-    let b = rw ((c .before .before .before .before .before .first) .given .1) at ((c .before .before .before .before .before .before .before .before .before .parse) .ensures) in
-    lay-beyond (length ((c .before .before .before .before .before .before .before .before .before .before .before .before .before .before .args) .store .now)) b ((c .before .before .before .before .before .before .before .before .before .before .before .before .before .before .args) .display) ((c .before .before .before .before .before .before .before .before .before .before .before .before .before .before .args) .sure) ((c .before .before .before .before .before .before .before .before .before .before .before .before .before .before .args) .out .now) ((c .before .before .before .before .before .before .before .before .before .before .before .before .before .before .args) .at) ((c .before .before .before .before .before .before .before .before .before .before .before .before .before .before .pre) .0) ((c .before .math-len) .ensures) refl ((c .if2) .taken)
+    let b = rw ((c .before .before .before .before .before .first) .given .1) at ((c .before .before .before .before .before .before .before .before .before .read-body) .ensures) in
+    lay-beyond ((c .before .before .before .before .before .before .before .before .before .before .before .before .before .before .args) .manner) (length ((c .before .before .before .before .before .before .before .before .before .before .before .before .before .before .args) .store .now)) b ((c .before .before .before .before .before .before .before .before .before .before .before .before .before .before .args) .display) ((c .before .before .before .before .before .before .before .before .before .before .before .before .before .before .args) .sure) ((c .before .before .before .before .before .before .before .before .before .before .before .before .before .before .args) .out .now) ((c .before .before .before .before .before .before .before .before .before .before .before .before .before .before .args) .at) ((c .before .before .before .before .before .before .before .before .before .before .before .before .before .before .pre) .0) ((c .before .math-len) .ensures) refl ((c .if2) .taken)
 
 put-math-requires-2 : tie.Need-put-math-requires-2
 put-math-requires-2 c κs =
-    let b = rw ((c .before .before .before .before .before .before .before .first) .given .1) at ((c .before .before .before .before .before .before .before .before .before .before .before .parse) .ensures) in
-    (show-fitting (length ((c .before .before .before .before .before .before .before .before .before .before .before .before .before .before .before .before .args) .store .now)) b ((c .before .before .before .before .before .before .before .before .before .before .before .before .before .before .before .before .args) .display) ((c .before .before .before .before .before .before .before .before .before .before .before .before .before .before .before .before .args) .sure) ((c .before .before .before .before .before .before .before .before .before .before .before .before .before .before .before .before .args) .out .now) ((c .before .before .before .before .before .before .before .before .before .before .before .before .before .before .before .before .args) .at) ((c .before .before .before .before .before .before .before .before .before .before .before .before .before .before .before .before .pre) .0) ((c .before .before .before .math-len) .ensures) refl ((c .before .before .if2) .left), (c .before .before .before .before .before .before .before .before .before .before .before .before .before .before .before .before .pre) .1)
+    let b = rw ((c .before .before .before .before .before .before .before .first) .given .1) at ((c .before .before .before .before .before .before .before .before .before .before .before .read-body) .ensures) in
+    (show-fitting ((c .before .before .before .before .before .before .before .before .before .before .before .before .before .before .before .before .args) .manner) (length ((c .before .before .before .before .before .before .before .before .before .before .before .before .before .before .before .before .args) .store .now)) b ((c .before .before .before .before .before .before .before .before .before .before .before .before .before .before .before .before .args) .display) ((c .before .before .before .before .before .before .before .before .before .before .before .before .before .before .before .before .args) .sure) ((c .before .before .before .before .before .before .before .before .before .before .before .before .before .before .before .before .args) .out .now) ((c .before .before .before .before .before .before .before .before .before .before .before .before .before .before .before .before .args) .at) ((c .before .before .before .before .before .before .before .before .before .before .before .before .before .before .before .before .pre) .0) ((c .before .before .before .math-len) .ensures) refl ((c .before .before .if2) .left), (c .before .before .before .before .before .before .before .before .before .before .before .before .before .before .before .before .pre) .1)
 
 same-length-4 : tie.Need-same-length-4
 same-length-4 c = search needs
 
 returns-3 : tie.Need-returns-3
 returns-3 c =
-    let b = rw ((c .before .r) .given .1) at ((c .before .before .before .before .before .parse) .ensures) in
-    (body-refused ((c .before .before .before .before .before .before .before .before .before .before .args) .s .now) ((c .before .before .before .before .before .before .before .before .before .before .args) .display) (length ((c .before .before .before .before .before .before .before .before .before .before .args) .store .now)) b, refl)
+    let b = rw ((c .before .r) .given .1) at ((c .before .before .before .before .before .read-body) .ensures) in
+    (body-refused ((c .before .before .before .before .before .before .before .before .before .before .args) .manner) ((c .before .before .before .before .before .before .before .before .before .before .args) .s .now) ((c .before .before .before .before .before .before .before .before .before .before .args) .display) (length ((c .before .before .before .before .before .before .before .before .before .before .args) .store .now)) b, refl)
 
 same-length-5 : tie.Need-same-length-5
 same-length-5 c = search needs
@@ -84,14 +84,14 @@ same-length-6 c = search needs
 
 returns-4 : tie.Need-returns-4
 returns-4 c =
-    let b = rw ((c .before .before .before .before .before .before .before .before .before .before .first) .given .1) at ((c .before .before .before .before .before .before .before .before .before .before .before .before .before .before .parse) .ensures) in
-    lay-fitting (length ((c .before .before .before .before .before .before .before .before .before .before .before .before .before .before .before .before .before .before .before .args) .store .now)) b ((c .before .before .before .before .before .before .before .before .before .before .before .before .before .before .before .before .before .before .before .args) .display) ((c .before .before .before .before .before .before .before .before .before .before .before .before .before .before .before .before .before .before .before .args) .sure) ((c .before .before .before .before .before .before .before .before .before .before .before .before .before .before .before .before .before .before .before .args) .out .now) ((c .before .before .before .before .before .before .before .before .before .before .before .before .before .before .before .before .before .before .before .args) .at) ((c .before .before .before .before .before .before .before .before .before .before .before .before .before .before .before .before .before .before .before .pre) .0) ((c .before .before .before .before .before .before .math-len) .ensures) refl ((c .before .before .before .before .before .if2) .left) ((c .before .before .put-math2) .ensures)
+    let b = rw ((c .before .before .before .before .before .before .before .before .before .before .first) .given .1) at ((c .before .before .before .before .before .before .before .before .before .before .before .before .before .before .read-body) .ensures) in
+    lay-fitting ((c .before .before .before .before .before .before .before .before .before .before .before .before .before .before .before .before .before .before .before .args) .manner) (length ((c .before .before .before .before .before .before .before .before .before .before .before .before .before .before .before .before .before .before .before .args) .store .now)) b ((c .before .before .before .before .before .before .before .before .before .before .before .before .before .before .before .before .before .before .before .args) .display) ((c .before .before .before .before .before .before .before .before .before .before .before .before .before .before .before .before .before .before .before .args) .sure) ((c .before .before .before .before .before .before .before .before .before .before .before .before .before .before .before .before .before .before .before .args) .out .now) ((c .before .before .before .before .before .before .before .before .before .before .before .before .before .before .before .before .before .before .before .args) .at) ((c .before .before .before .before .before .before .before .before .before .before .before .before .before .before .before .before .before .before .before .pre) .0) ((c .before .before .before .before .before .before .math-len) .ensures) refl ((c .before .before .before .before .before .if2) .left) ((c .before .before .put-math2) .ensures)
 
 pub lay-body-spec : {M : Type 1} → statement M
 lay-body-spec =
     tie.close
     (tie.spec
-    parse-requires
+    read-body-requires
     enum-known-r
     enum-known-first
     cast-n

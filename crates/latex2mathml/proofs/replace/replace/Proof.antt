@@ -3,8 +3,15 @@
 use mathlib.Core.Path.{refl, sym, _∙_}
 use lib.ListN.{length}
 use borrow.Author.Needs.{needs}
+use native.Mathlib.Omega.{arith}
 use Rattle.latex2mathml.proofs.replace.replace.Statement.{statement}
 use Rattle.latex2mathml.proofs.replace.replace.Tie as tie
+use Rattle.latex2mathml.proofs.replace.replace.Reads as reads
+use Rattle.latex2mathml.proofs.replace.replace.Lts as lts
+use Rattle.latex2mathml.proofs.dollars.is_prose.Reads as is-prose-reads
+use Rattle.latex2mathml.proofs.replace.replace_in.Reads as replace-in-reads
+use Rattle.latex2mathml.proofs.replace.replace_prose.Reads as replace-prose-reads
+use Rattle.latex2mathml.proofs.replace.replace_short.Reads as replace-short-reads
 
 is-prose-requires : tie.Need-is-prose-requires
 is-prose-requires c κs = search needs
@@ -21,7 +28,7 @@ same-length-2 c = search needs
 
 returns : tie.Need-returns
 returns c =
-    ((c .before .before .before .before .replace-prose) .ensures (length ((c .before .before .before .before .before .before .before .before .before .before .before .before .before .args) .store .now)), refl)
+    ((c .before .before .before .before .replace-prose) .ensures ((c .before .before .before .before .before .before .before .before .before .before .before .before .before .args) .manner) (length ((c .before .before .before .before .before .before .before .before .before .before .before .before .before .args) .store .now)), refl)
 
 replace-short-requires : tie.Need-replace-short-requires
 replace-short-requires c κs = search needs

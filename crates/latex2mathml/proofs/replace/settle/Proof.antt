@@ -27,7 +27,8 @@ returns c =
     front-written ((c .before .before .before .before .before .before .before .before .before .before .pre) .1) ((c .before .before .before .before .before .if1) .taken) ((c .before .before .put) .ensures)
 
 write-pass-requires : tie.Need-write-pass-requires
-write-pass-requires c κs = (c .before .before .before .before .before .before .before .pre .0, c .before .before .before .before .before .before .before .pre .2)
+write-pass-requires c κs =
+    ((c .before .before .before .before .before .before .before .pre) .0, (c .before .before .before .before .before .before .before .pre) .2)
 
 same-length-2 : tie.Need-same-length-2
 same-length-2 c = search needs

@@ -16,18 +16,19 @@ use Rattle.latex2mathml.proofs.replace.lay_body.Reads as lay-body-reads
 use Rattle.latex2mathml.proofs.replace.width.Reads as width-reads
 
 abbrev Inv-loop : tie.InvT-loop
-Inv-loop s double display store₀ out₀ start sure table width from₀ at₀ store out from at =
-    Passing (length store₀) display double s width out₀ out start at from × (length store ≡ length store₀)
+Inv-loop manner s double display store₀ out₀ start sure table width from₀ at₀ store out from at =
+    Passing manner (length store₀) display double s width out₀ out start at from × (length store ≡ length store₀)
 
 abbrev μ-loop : tie.MeasureT-loop
-μ-loop s double display store₀ out₀ start sure table width from₀ at₀ store out from at = length s - from
+μ-loop manner s double display store₀ out₀ start sure table width from₀ at₀ store out from at =
+    length s - from
 
 width-requires : tie.Need-width-requires Inv-loop μ-loop
 width-requires c κs = search needs
 
 loop-holds : tie.Need-loop-holds Inv-loop μ-loop
 loop-holds c =
-    (passing-none (length ((c .before .before .before .before .args) .store .now)) ((c .before .before .before .before .args) .display) ((c .before .before .before .before .args) .double) ((c .before .before .before .before .args) .s .now) ((c .width) .result) ((c .before .before .before .before .args) .out .now) ((c .before .before .before .before .args) .start) ((c .width) .ensures) ((c .before .before .before .before .pre .0) .even), refl)
+    (passing-none ((c .before .before .before .before .args) .manner) (length ((c .before .before .before .before .args) .store .now)) ((c .before .before .before .before .args) .display) ((c .before .before .before .before .args) .double) ((c .before .before .before .before .args) .s .now) ((c .width) .result) ((c .before .before .before .before .args) .out .now) ((c .before .before .before .before .args) .start) ((c .width) .ensures) (((c .before .before .before .before .pre) .0) .even), refl)
 
 next-mark-requires : tie.Need-next-mark-requires Inv-loop μ-loop
 next-mark-requires c κs = (c .loop) .inv .0 .inside
@@ -43,7 +44,7 @@ part-lay-end c = search needs
 
 lay-requires : tie.Need-lay-requires Inv-loop μ-loop
 lay-requires c κs =
-    last-small (length ((c .before .before .before .before .before .before .before .before .before .args) .store .now)) ((c .before .before .before .before .before .before .before .before .before .args) .display) ((c .before .before .before .before .before .before .before .before .before .args) .double) ((c .before .before .before .before .before .before .before .before .before .args) .s .now) ((c .before .before .before .before .before .width) .result) ((c .before .before .before .before .before .before .before .before .before .pre .0) .small) ((c .before .before .before .before .loop) .inv .0)
+    last-small ((c .before .before .before .before .before .before .before .before .before .args) .manner) (length ((c .before .before .before .before .before .before .before .before .before .args) .store .now)) ((c .before .before .before .before .before .before .before .before .before .args) .display) ((c .before .before .before .before .before .before .before .before .before .args) .double) ((c .before .before .before .before .before .before .before .before .before .args) .s .now) ((c .before .before .before .before .before .width) .result) (((c .before .before .before .before .before .before .before .before .before .pre) .0) .small) ((c .before .before .before .before .loop) .inv .0)
 
 same-length : tie.Need-same-length Inv-loop μ-loop
 same-length c = search needs
@@ -53,20 +54,20 @@ same-length-2 c = search needs
 
 returns : tie.Need-returns Inv-loop μ-loop
 returns c =
-    passing-all (length ((c .before .before .before .before .before .before .before .before .before .before .before .before .args) .store .now)) ((c .before .before .before .before .before .before .before .before .before .before .before .before .args) .display) ((c .before .before .before .before .before .before .before .before .before .before .before .before .args) .double) ((c .before .before .before .before .before .before .before .before .before .before .before .before .args) .s .now) ((c .before .before .before .before .before .before .before .before .width) .result) ((c .before .before .before .before .before .before .before .before .before .before .before .before .pre .0) .small) ((c .before .before .before .before .before .before .before .loop) .inv .0) ((c .before .before .lay) .last .1 .0) ((c .before .before .before .before .before .before .next-mark) .ensures .0) ((c .before .before .before .before .before .if1) .taken) ((c .before .before .lay) .ensures .0) ((c .before .before .lay) .ensures .1) ((c .before .before .lay) .kept .1 .0)
+    passing-all ((c .before .before .before .before .before .before .before .before .before .before .before .before .args) .manner) (length ((c .before .before .before .before .before .before .before .before .before .before .before .before .args) .store .now)) ((c .before .before .before .before .before .before .before .before .before .before .before .before .args) .display) ((c .before .before .before .before .before .before .before .before .before .before .before .before .args) .double) ((c .before .before .before .before .before .before .before .before .before .before .before .before .args) .s .now) ((c .before .before .before .before .before .before .before .before .width) .result) (((c .before .before .before .before .before .before .before .before .before .before .before .before .pre) .0) .small) ((c .before .before .before .before .before .before .before .loop) .inv .0) ((c .before .before .lay) .last .1 .0) ((c .before .before .before .before .before .before .next-mark) .ensures .0) ((c .before .before .before .before .before .if1) .taken) ((c .before .before .lay) .ensures .0) ((c .before .before .lay) .ensures .1) ((c .before .before .lay) .kept .1 .0)
 
 add-next-mark : tie.Need-add-next-mark Inv-loop μ-loop
 add-next-mark c =
     let d = (c .if1) .left in
     let n = (c .before .next-mark) .ensures in
-    let m = mark-inside ((c .before .before .before .before .before .before .before .args) .double) ((c .before .before .before .before .before .before .before .args) .s .now) ((c .before .before .before .before .before .before .before .pre .0) .apart) ((c .before .before .before .width) .result) ((c .before .before .before .width) .ensures) ((c .before .before .loop) .from) ((c .before .next-mark) .result) ((c .before .before .loop) .inv .0 .inside) ((c .before .next-mark) .ensures .0) (omega arith) in
+    let m = mark-inside ((c .before .before .before .before .before .before .before .args) .double) ((c .before .before .before .before .before .before .before .args) .s .now) (((c .before .before .before .before .before .before .before .pre) .0) .apart) ((c .before .before .before .width) .result) ((c .before .before .before .width) .ensures) ((c .before .before .loop) .from) ((c .before .next-mark) .result) ((c .before .before .loop) .inv .0 .inside) ((c .before .next-mark) .ensures .0) (omega arith) in
     omega arith
 
 next-mark-requires-2 : tie.Need-next-mark-requires-2 Inv-loop μ-loop
 next-mark-requires-2 c κs =
     let d = (c .if1) .left in
     let n = (c .before .next-mark) .ensures in
-    mark-inside ((c .before .before .before .before .before .before .before .args) .double) ((c .before .before .before .before .before .before .before .args) .s .now) ((c .before .before .before .before .before .before .before .pre .0) .apart) ((c .before .before .before .width) .result) ((c .before .before .before .width) .ensures) ((c .before .before .loop) .from) ((c .before .next-mark) .result) ((c .before .before .loop) .inv .0 .inside) ((c .before .next-mark) .ensures .0) (omega arith)
+    mark-inside ((c .before .before .before .before .before .before .before .args) .double) ((c .before .before .before .before .before .before .before .args) .s .now) (((c .before .before .before .before .before .before .before .pre) .0) .apart) ((c .before .before .before .width) .result) ((c .before .before .before .width) .ensures) ((c .before .before .loop) .from) ((c .before .next-mark) .result) ((c .before .before .loop) .inv .0 .inside) ((c .before .next-mark) .ensures .0) (omega arith)
 
 sub-lay-2 : tie.Need-sub-lay-2 Inv-loop μ-loop
 sub-lay-2 c = (c .before .before .next-mark) .ensures .1
@@ -81,14 +82,14 @@ lay-requires-2 : tie.Need-lay-requires-2 Inv-loop μ-loop
 lay-requires-2 c κs =
     let d = (c .before .before .before .if1) .left in
     let n = (c .before .before .before .before .next-mark) .ensures in
-    let p = pair-next ((c .before .before .before .before .before .before .before .before .before .before .args) .double) ((c .before .before .before .before .before .before .before .before .before .before .args) .s .now) ((c .before .before .before .before .before .before .before .before .before .before .pre .0) .apart) ((c .before .before .before .before .before .before .width) .result) ((c .before .before .before .before .before .before .width) .ensures) ((c .before .before .before .before .before .loop) .from) ((c .before .before .before .before .next-mark) .result) ((c .before .before .next-mark2) .result) ((c .before .before .before .before .before .loop) .inv .0 .inside) ((c .before .before .before .before .before .loop) .inv .0 .even) ((c .before .before .before .before .next-mark) .ensures .0) (omega arith) ((c .before .before .next-mark2) .ensures .0) in
-    prose-small (length ((c .before .before .before .before .before .before .before .before .before .before .args) .store .now)) ((c .before .before .before .before .before .before .before .before .before .before .args) .display) ((c .before .before .before .before .before .before .before .before .before .before .args) .double) ((c .before .before .before .before .before .before .before .before .before .before .args) .s .now) ((c .before .before .before .before .before .before .width) .result) ((c .before .before .before .before .before .before .before .before .before .before .pre .0) .small) ((c .before .before .before .before .before .loop) .inv .0) ((c .before .before .before .before .next-mark) .result) ((c .before .before .next-mark2) .result) p
+    let p = pair-next ((c .before .before .before .before .before .before .before .before .before .before .args) .double) ((c .before .before .before .before .before .before .before .before .before .before .args) .s .now) (((c .before .before .before .before .before .before .before .before .before .before .pre) .0) .apart) ((c .before .before .before .before .before .before .width) .result) ((c .before .before .before .before .before .before .width) .ensures) ((c .before .before .before .before .before .loop) .from) ((c .before .before .before .before .next-mark) .result) ((c .before .before .next-mark2) .result) ((c .before .before .before .before .before .loop) .inv .0 .inside) ((c .before .before .before .before .before .loop) .inv .0 .even) ((c .before .before .before .before .next-mark) .ensures .0) (omega arith) ((c .before .before .next-mark2) .ensures .0) in
+    prose-small ((c .before .before .before .before .before .before .before .before .before .before .args) .manner) (length ((c .before .before .before .before .before .before .before .before .before .before .args) .store .now)) ((c .before .before .before .before .before .before .before .before .before .before .args) .display) ((c .before .before .before .before .before .before .before .before .before .before .args) .double) ((c .before .before .before .before .before .before .before .before .before .before .args) .s .now) ((c .before .before .before .before .before .before .width) .result) (((c .before .before .before .before .before .before .before .before .before .before .pre) .0) .small) ((c .before .before .before .before .before .loop) .inv .0) ((c .before .before .before .before .next-mark) .result) ((c .before .before .next-mark2) .result) p
 
 add-lay-body : tie.Need-add-lay-body Inv-loop μ-loop
 add-lay-body c =
     let d = (c .before .before .before .before .before .before .if1) .left in
     let n = (c .before .before .before .before .before .before .before .next-mark) .ensures in
-    let p = pair-next ((c .before .before .before .before .before .before .before .before .before .before .before .before .before .args) .double) ((c .before .before .before .before .before .before .before .before .before .before .before .before .before .args) .s .now) ((c .before .before .before .before .before .before .before .before .before .before .before .before .before .pre .0) .apart) ((c .before .before .before .before .before .before .before .before .before .width) .result) ((c .before .before .before .before .before .before .before .before .before .width) .ensures) ((c .before .before .before .before .before .before .before .before .loop) .from) ((c .before .before .before .before .before .before .before .next-mark) .result) ((c .before .before .before .before .before .next-mark2) .result) ((c .before .before .before .before .before .before .before .before .loop) .inv .0 .inside) ((c .before .before .before .before .before .before .before .before .loop) .inv .0 .even) ((c .before .before .before .before .before .before .before .next-mark) .ensures .0) (omega arith) ((c .before .before .before .before .before .next-mark2) .ensures .0) in
+    let p = pair-next ((c .before .before .before .before .before .before .before .before .before .before .before .before .before .args) .double) ((c .before .before .before .before .before .before .before .before .before .before .before .before .before .args) .s .now) (((c .before .before .before .before .before .before .before .before .before .before .before .before .before .pre) .0) .apart) ((c .before .before .before .before .before .before .before .before .before .width) .result) ((c .before .before .before .before .before .before .before .before .before .width) .ensures) ((c .before .before .before .before .before .before .before .before .loop) .from) ((c .before .before .before .before .before .before .before .next-mark) .result) ((c .before .before .before .before .before .next-mark2) .result) ((c .before .before .before .before .before .before .before .before .loop) .inv .0 .inside) ((c .before .before .before .before .before .before .before .before .loop) .inv .0 .even) ((c .before .before .before .before .before .before .before .next-mark) .ensures .0) (omega arith) ((c .before .before .before .before .before .next-mark2) .ensures .0) in
     let gap = p .gap in
     omega arith
 
@@ -96,7 +97,7 @@ sub-lay-body : tie.Need-sub-lay-body Inv-loop μ-loop
 sub-lay-body c =
     let d = (c .before .before .before .before .before .before .if1) .left in
     let n = (c .before .before .before .before .before .before .before .next-mark) .ensures in
-    let p = pair-next ((c .before .before .before .before .before .before .before .before .before .before .before .before .before .args) .double) ((c .before .before .before .before .before .before .before .before .before .before .before .before .before .args) .s .now) ((c .before .before .before .before .before .before .before .before .before .before .before .before .before .pre .0) .apart) ((c .before .before .before .before .before .before .before .before .before .width) .result) ((c .before .before .before .before .before .before .before .before .before .width) .ensures) ((c .before .before .before .before .before .before .before .before .loop) .from) ((c .before .before .before .before .before .before .before .next-mark) .result) ((c .before .before .before .before .before .next-mark2) .result) ((c .before .before .before .before .before .before .before .before .loop) .inv .0 .inside) ((c .before .before .before .before .before .before .before .before .loop) .inv .0 .even) ((c .before .before .before .before .before .before .before .next-mark) .ensures .0) (omega arith) ((c .before .before .before .before .before .next-mark2) .ensures .0) in
+    let p = pair-next ((c .before .before .before .before .before .before .before .before .before .before .before .before .before .args) .double) ((c .before .before .before .before .before .before .before .before .before .before .before .before .before .args) .s .now) (((c .before .before .before .before .before .before .before .before .before .before .before .before .before .pre) .0) .apart) ((c .before .before .before .before .before .before .before .before .before .width) .result) ((c .before .before .before .before .before .before .before .before .before .width) .ensures) ((c .before .before .before .before .before .before .before .before .loop) .from) ((c .before .before .before .before .before .before .before .next-mark) .result) ((c .before .before .before .before .before .next-mark2) .result) ((c .before .before .before .before .before .before .before .before .loop) .inv .0 .inside) ((c .before .before .before .before .before .before .before .before .loop) .inv .0 .even) ((c .before .before .before .before .before .before .before .next-mark) .ensures .0) (omega arith) ((c .before .before .before .before .before .next-mark2) .ensures .0) in
     p .gap
 
 part-lay-body-start : tie.Need-part-lay-body-start Inv-loop μ-loop
@@ -109,10 +110,10 @@ lay-body-requires : tie.Need-lay-body-requires Inv-loop μ-loop
 lay-body-requires c κs =
     let d = (c .before .before .before .before .before .before .before .before .before .if1) .left in
     let n = (c .before .before .before .before .before .before .before .before .before .before .next-mark) .ensures in
-    let p = pair-next ((c .before .before .before .before .before .before .before .before .before .before .before .before .before .before .before .before .args) .double) ((c .before .before .before .before .before .before .before .before .before .before .before .before .before .before .before .before .args) .s .now) ((c .before .before .before .before .before .before .before .before .before .before .before .before .before .before .before .before .pre .0) .apart) ((c .before .before .before .before .before .before .before .before .before .before .before .before .width) .result) ((c .before .before .before .before .before .before .before .before .before .before .before .before .width) .ensures) ((c .before .before .before .before .before .before .before .before .before .before .before .loop) .from) ((c .before .before .before .before .before .before .before .before .before .before .next-mark) .result) ((c .before .before .before .before .before .before .before .before .next-mark2) .result) ((c .before .before .before .before .before .before .before .before .before .before .before .loop) .inv .0 .inside) ((c .before .before .before .before .before .before .before .before .before .before .before .loop) .inv .0 .even) ((c .before .before .before .before .before .before .before .before .before .before .next-mark) .ensures .0) (omega arith) ((c .before .before .before .before .before .before .before .before .next-mark2) .ensures .0) in (
+    let p = pair-next ((c .before .before .before .before .before .before .before .before .before .before .before .before .before .before .before .before .args) .double) ((c .before .before .before .before .before .before .before .before .before .before .before .before .before .before .before .before .args) .s .now) (((c .before .before .before .before .before .before .before .before .before .before .before .before .before .before .before .before .pre) .0) .apart) ((c .before .before .before .before .before .before .before .before .before .before .before .before .width) .result) ((c .before .before .before .before .before .before .before .before .before .before .before .before .width) .ensures) ((c .before .before .before .before .before .before .before .before .before .before .before .loop) .from) ((c .before .before .before .before .before .before .before .before .before .before .next-mark) .result) ((c .before .before .before .before .before .before .before .before .next-mark2) .result) ((c .before .before .before .before .before .before .before .before .before .before .before .loop) .inv .0 .inside) ((c .before .before .before .before .before .before .before .before .before .before .before .loop) .inv .0 .even) ((c .before .before .before .before .before .before .before .before .before .before .next-mark) .ensures .0) (omega arith) ((c .before .before .before .before .before .before .before .before .next-mark2) .ensures .0) in (
       rw ((c .before .before .before .before .before .before .before .before .before .before .before .loop) .inv .1)
-          (body-room (length ((c .before .before .before .before .before .before .before .before .before .before .before .before .before .before .before .before .args) .store .now)) ((c .before .before .before .before .before .before .before .before .before .before .before .before .before .before .before .before .args) .display) ((c .before .before .before .before .before .before .before .before .before .before .before .before .before .before .before .before .args) .double) ((c .before .before .before .before .before .before .before .before .before .before .before .before .before .before .before .before .args) .s .now) ((c .before .before .before .before .before .before .before .before .before .before .before .before .width) .result) ((c .before .before .before .before .before .before .before .before .before .before .before .before .before .before .before .before .pre .0) .small) ((c .before .before .before .before .before .before .before .before .before .before .before .loop) .inv .0) ((c .before .before .before .before .before .before .before .before .before .before .next-mark) .result) ((c .before .before .before .before .before .before .before .before .next-mark2) .result) p ((c .before .before .before .before .before .lay2) .last .1 .0) ((c .before .before .before .before .before .lay2) .result) ((c .before .before .before .before .before .lay2) .ensures .0) ((c .before .before .before .before .before .lay2) .ensures .1) ((c .before .before .before .before .before .lay2) .kept .1 .0) ((c .before .before .before .before .before .before .before .before .before .before .before .before .before .before .before .before .args) .sure) ((c .before .before .before .before .before .before .before .before .before .before .before .before .before .before .before .before .pre .0) .fits)),
-      c .before .before .before .before .before .before .before .before .before .before .before .before .before .before .before .before .pre .1,
+          (body-room ((c .before .before .before .before .before .before .before .before .before .before .before .before .before .before .before .before .args) .manner) (length ((c .before .before .before .before .before .before .before .before .before .before .before .before .before .before .before .before .args) .store .now)) ((c .before .before .before .before .before .before .before .before .before .before .before .before .before .before .before .before .args) .display) ((c .before .before .before .before .before .before .before .before .before .before .before .before .before .before .before .before .args) .double) ((c .before .before .before .before .before .before .before .before .before .before .before .before .before .before .before .before .args) .s .now) ((c .before .before .before .before .before .before .before .before .before .before .before .before .width) .result) (((c .before .before .before .before .before .before .before .before .before .before .before .before .before .before .before .before .pre) .0) .small) ((c .before .before .before .before .before .before .before .before .before .before .before .loop) .inv .0) ((c .before .before .before .before .before .before .before .before .before .before .next-mark) .result) ((c .before .before .before .before .before .before .before .before .next-mark2) .result) p ((c .before .before .before .before .before .lay2) .last .1 .0) ((c .before .before .before .before .before .lay2) .result) ((c .before .before .before .before .before .lay2) .ensures .0) ((c .before .before .before .before .before .lay2) .ensures .1) ((c .before .before .before .before .before .lay2) .kept .1 .0) ((c .before .before .before .before .before .before .before .before .before .before .before .before .before .before .before .before .args) .sure) (((c .before .before .before .before .before .before .before .before .before .before .before .before .before .before .before .before .pre) .0) .fits)),
+      (c .before .before .before .before .before .before .before .before .before .before .before .before .before .before .before .before .pre) .1,
     )
 
 enum-known-r : tie.Need-enum-known-r Inv-loop μ-loop
@@ -128,8 +129,8 @@ returns-2 : tie.Need-returns-2 Inv-loop μ-loop
 returns-2 c =
     let d = (c .before .before .before .before .before .before .before .before .before .before .before .before .before .before .before .before .before .if1) .left in
     let n = (c .before .before .before .before .before .before .before .before .before .before .before .before .before .before .before .before .before .before .next-mark) .ensures in
-    let p = pair-next ((c .before .before .before .before .before .before .before .before .before .before .before .before .before .before .before .before .before .before .before .before .before .before .before .before .args) .double) ((c .before .before .before .before .before .before .before .before .before .before .before .before .before .before .before .before .before .before .before .before .before .before .before .before .args) .s .now) ((c .before .before .before .before .before .before .before .before .before .before .before .before .before .before .before .before .before .before .before .before .before .before .before .before .pre .0) .apart) ((c .before .before .before .before .before .before .before .before .before .before .before .before .before .before .before .before .before .before .before .before .width) .result) ((c .before .before .before .before .before .before .before .before .before .before .before .before .before .before .before .before .before .before .before .before .width) .ensures) ((c .before .before .before .before .before .before .before .before .before .before .before .before .before .before .before .before .before .before .before .loop) .from) ((c .before .before .before .before .before .before .before .before .before .before .before .before .before .before .before .before .before .before .next-mark) .result) ((c .before .before .before .before .before .before .before .before .before .before .before .before .before .before .before .before .next-mark2) .result) ((c .before .before .before .before .before .before .before .before .before .before .before .before .before .before .before .before .before .before .before .loop) .inv .0 .inside) ((c .before .before .before .before .before .before .before .before .before .before .before .before .before .before .before .before .before .before .before .loop) .inv .0 .even) ((c .before .before .before .before .before .before .before .before .before .before .before .before .before .before .before .before .before .before .next-mark) .ensures .0) (omega arith) ((c .before .before .before .before .before .before .before .before .before .before .before .before .before .before .before .before .next-mark2) .ensures .0) in
-    passing-refused (length ((c .before .before .before .before .before .before .before .before .before .before .before .before .before .before .before .before .before .before .before .before .before .before .before .before .args) .store .now)) ((c .before .before .before .before .before .before .before .before .before .before .before .before .before .before .before .before .before .before .before .before .before .before .before .before .args) .display) ((c .before .before .before .before .before .before .before .before .before .before .before .before .before .before .before .before .before .before .before .before .before .before .before .before .args) .double) ((c .before .before .before .before .before .before .before .before .before .before .before .before .before .before .before .before .before .before .before .before .before .before .before .before .args) .s .now) ((c .before .before .before .before .before .before .before .before .before .before .before .before .before .before .before .before .before .before .before .before .width) .result) ((c .before .before .before .before .before .before .before .before .before .before .before .before .before .before .before .before .before .before .before .before .before .before .before .before .pre .0) .small) ((c .before .before .before .before .before .before .before .before .before .before .before .before .before .before .before .before .before .before .before .loop) .inv .0) ((c .before .before .before .before .before .before .before .before .before .before .before .before .before .before .before .before .before .before .next-mark) .result) ((c .before .before .before .before .before .before .before .before .before .before .before .before .before .before .before .before .next-mark2) .result) p ((c .before .before .before .before .before .before .before .before .before .before .before .before .before .lay2) .last .1 .0) ((c .before .before .before .before .before .before .before .before .before .before .before .before .before .lay2) .result) ((c .before .before .before .before .before .before .before .before .before .before .before .before .before .lay2) .ensures .0) ((c .before .before .before .before .before .before .before .before .before .before .before .before .before .lay2) .ensures .1) ((c .before .before .before .before .before .before .before .before .before .before .before .before .before .lay2) .kept .1 .0) ((c .before .before .before .before .before .before .before .lay-body) .last .1 .1 .1 .0) ((c .before .r) .given .0 .0) (rw ((c .before .before .before .before .before .before .before .before .before .before .before .before .before .before .before .before .before .before .before .loop) .inv .1, (c .before .r) .given .1) at ((c .before .before .before .before .before .before .before .lay-body) .ensures))
+    let p = pair-next ((c .before .before .before .before .before .before .before .before .before .before .before .before .before .before .before .before .before .before .before .before .before .before .before .before .args) .double) ((c .before .before .before .before .before .before .before .before .before .before .before .before .before .before .before .before .before .before .before .before .before .before .before .before .args) .s .now) (((c .before .before .before .before .before .before .before .before .before .before .before .before .before .before .before .before .before .before .before .before .before .before .before .before .pre) .0) .apart) ((c .before .before .before .before .before .before .before .before .before .before .before .before .before .before .before .before .before .before .before .before .width) .result) ((c .before .before .before .before .before .before .before .before .before .before .before .before .before .before .before .before .before .before .before .before .width) .ensures) ((c .before .before .before .before .before .before .before .before .before .before .before .before .before .before .before .before .before .before .before .loop) .from) ((c .before .before .before .before .before .before .before .before .before .before .before .before .before .before .before .before .before .before .next-mark) .result) ((c .before .before .before .before .before .before .before .before .before .before .before .before .before .before .before .before .next-mark2) .result) ((c .before .before .before .before .before .before .before .before .before .before .before .before .before .before .before .before .before .before .before .loop) .inv .0 .inside) ((c .before .before .before .before .before .before .before .before .before .before .before .before .before .before .before .before .before .before .before .loop) .inv .0 .even) ((c .before .before .before .before .before .before .before .before .before .before .before .before .before .before .before .before .before .before .next-mark) .ensures .0) (omega arith) ((c .before .before .before .before .before .before .before .before .before .before .before .before .before .before .before .before .next-mark2) .ensures .0) in
+    passing-refused ((c .before .before .before .before .before .before .before .before .before .before .before .before .before .before .before .before .before .before .before .before .before .before .before .before .args) .manner) (length ((c .before .before .before .before .before .before .before .before .before .before .before .before .before .before .before .before .before .before .before .before .before .before .before .before .args) .store .now)) ((c .before .before .before .before .before .before .before .before .before .before .before .before .before .before .before .before .before .before .before .before .before .before .before .before .args) .display) ((c .before .before .before .before .before .before .before .before .before .before .before .before .before .before .before .before .before .before .before .before .before .before .before .before .args) .double) ((c .before .before .before .before .before .before .before .before .before .before .before .before .before .before .before .before .before .before .before .before .before .before .before .before .args) .s .now) ((c .before .before .before .before .before .before .before .before .before .before .before .before .before .before .before .before .before .before .before .before .width) .result) (((c .before .before .before .before .before .before .before .before .before .before .before .before .before .before .before .before .before .before .before .before .before .before .before .before .pre) .0) .small) ((c .before .before .before .before .before .before .before .before .before .before .before .before .before .before .before .before .before .before .before .loop) .inv .0) ((c .before .before .before .before .before .before .before .before .before .before .before .before .before .before .before .before .before .before .next-mark) .result) ((c .before .before .before .before .before .before .before .before .before .before .before .before .before .before .before .before .next-mark2) .result) p ((c .before .before .before .before .before .before .before .before .before .before .before .before .before .lay2) .last .1 .0) ((c .before .before .before .before .before .before .before .before .before .before .before .before .before .lay2) .result) ((c .before .before .before .before .before .before .before .before .before .before .before .before .before .lay2) .ensures .0) ((c .before .before .before .before .before .before .before .before .before .before .before .before .before .lay2) .ensures .1) ((c .before .before .before .before .before .before .before .before .before .before .before .before .before .lay2) .kept .1 .0) ((c .before .before .before .before .before .before .before .lay-body) .last .1 .1 .1 .1 .0) ((c .before .r) .given .0 .0) (rw ((c .before .before .before .before .before .before .before .before .before .before .before .before .before .before .before .before .before .before .before .loop) .inv .1, (c .before .r) .given .1) at ((c .before .before .before .before .before .before .before .lay-body) .ensures))
 
 enum-known-end : tie.Need-enum-known-end Inv-loop μ-loop
 enum-known-end c = search needs
@@ -138,7 +139,7 @@ add-from : tie.Need-add-from Inv-loop μ-loop
 add-from c =
     let d = (c .before .before .before .before .before .before .before .before .before .before .before .before .before .before .before .before .before .if1) .left in
     let n = (c .before .before .before .before .before .before .before .before .before .before .before .before .before .before .before .before .before .before .next-mark) .ensures in
-    let p = pair-next ((c .before .before .before .before .before .before .before .before .before .before .before .before .before .before .before .before .before .before .before .before .before .before .before .before .args) .double) ((c .before .before .before .before .before .before .before .before .before .before .before .before .before .before .before .before .before .before .before .before .before .before .before .before .args) .s .now) ((c .before .before .before .before .before .before .before .before .before .before .before .before .before .before .before .before .before .before .before .before .before .before .before .before .pre .0) .apart) ((c .before .before .before .before .before .before .before .before .before .before .before .before .before .before .before .before .before .before .before .before .width) .result) ((c .before .before .before .before .before .before .before .before .before .before .before .before .before .before .before .before .before .before .before .before .width) .ensures) ((c .before .before .before .before .before .before .before .before .before .before .before .before .before .before .before .before .before .before .before .loop) .from) ((c .before .before .before .before .before .before .before .before .before .before .before .before .before .before .before .before .before .before .next-mark) .result) ((c .before .before .before .before .before .before .before .before .before .before .before .before .before .before .before .before .next-mark2) .result) ((c .before .before .before .before .before .before .before .before .before .before .before .before .before .before .before .before .before .before .before .loop) .inv .0 .inside) ((c .before .before .before .before .before .before .before .before .before .before .before .before .before .before .before .before .before .before .before .loop) .inv .0 .even) ((c .before .before .before .before .before .before .before .before .before .before .before .before .before .before .before .before .before .before .next-mark) .ensures .0) (omega arith) ((c .before .before .before .before .before .before .before .before .before .before .before .before .before .before .before .before .next-mark2) .ensures .0) in
+    let p = pair-next ((c .before .before .before .before .before .before .before .before .before .before .before .before .before .before .before .before .before .before .before .before .before .before .before .before .args) .double) ((c .before .before .before .before .before .before .before .before .before .before .before .before .before .before .before .before .before .before .before .before .before .before .before .before .args) .s .now) (((c .before .before .before .before .before .before .before .before .before .before .before .before .before .before .before .before .before .before .before .before .before .before .before .before .pre) .0) .apart) ((c .before .before .before .before .before .before .before .before .before .before .before .before .before .before .before .before .before .before .before .before .width) .result) ((c .before .before .before .before .before .before .before .before .before .before .before .before .before .before .before .before .before .before .before .before .width) .ensures) ((c .before .before .before .before .before .before .before .before .before .before .before .before .before .before .before .before .before .before .before .loop) .from) ((c .before .before .before .before .before .before .before .before .before .before .before .before .before .before .before .before .before .before .next-mark) .result) ((c .before .before .before .before .before .before .before .before .before .before .before .before .before .before .before .before .next-mark2) .result) ((c .before .before .before .before .before .before .before .before .before .before .before .before .before .before .before .before .before .before .before .loop) .inv .0 .inside) ((c .before .before .before .before .before .before .before .before .before .before .before .before .before .before .before .before .before .before .before .loop) .inv .0 .even) ((c .before .before .before .before .before .before .before .before .before .before .before .before .before .before .before .before .before .before .next-mark) .ensures .0) (omega arith) ((c .before .before .before .before .before .before .before .before .before .before .before .before .before .before .before .before .next-mark2) .ensures .0) in
     let last = p .last in
     omega arith
 
@@ -146,7 +147,7 @@ loop-less : tie.Need-loop-less Inv-loop μ-loop
 loop-less c =
     let d = (c .before .before .before .before .before .before .before .before .before .before .before .before .before .before .before .before .before .if1) .left in
     let n = (c .before .before .before .before .before .before .before .before .before .before .before .before .before .before .before .before .before .before .next-mark) .ensures in
-    let p = pair-next ((c .before .before .before .before .before .before .before .before .before .before .before .before .before .before .before .before .before .before .before .before .before .before .before .before .args) .double) ((c .before .before .before .before .before .before .before .before .before .before .before .before .before .before .before .before .before .before .before .before .before .before .before .before .args) .s .now) ((c .before .before .before .before .before .before .before .before .before .before .before .before .before .before .before .before .before .before .before .before .before .before .before .before .pre .0) .apart) ((c .before .before .before .before .before .before .before .before .before .before .before .before .before .before .before .before .before .before .before .before .width) .result) ((c .before .before .before .before .before .before .before .before .before .before .before .before .before .before .before .before .before .before .before .before .width) .ensures) ((c .before .before .before .before .before .before .before .before .before .before .before .before .before .before .before .before .before .before .before .loop) .from) ((c .before .before .before .before .before .before .before .before .before .before .before .before .before .before .before .before .before .before .next-mark) .result) ((c .before .before .before .before .before .before .before .before .before .before .before .before .before .before .before .before .next-mark2) .result) ((c .before .before .before .before .before .before .before .before .before .before .before .before .before .before .before .before .before .before .before .loop) .inv .0 .inside) ((c .before .before .before .before .before .before .before .before .before .before .before .before .before .before .before .before .before .before .before .loop) .inv .0 .even) ((c .before .before .before .before .before .before .before .before .before .before .before .before .before .before .before .before .before .before .next-mark) .ensures .0) (omega arith) ((c .before .before .before .before .before .before .before .before .before .before .before .before .before .before .before .before .next-mark2) .ensures .0) in
+    let p = pair-next ((c .before .before .before .before .before .before .before .before .before .before .before .before .before .before .before .before .before .before .before .before .before .before .before .before .args) .double) ((c .before .before .before .before .before .before .before .before .before .before .before .before .before .before .before .before .before .before .before .before .before .before .before .before .args) .s .now) (((c .before .before .before .before .before .before .before .before .before .before .before .before .before .before .before .before .before .before .before .before .before .before .before .before .pre) .0) .apart) ((c .before .before .before .before .before .before .before .before .before .before .before .before .before .before .before .before .before .before .before .before .width) .result) ((c .before .before .before .before .before .before .before .before .before .before .before .before .before .before .before .before .before .before .before .before .width) .ensures) ((c .before .before .before .before .before .before .before .before .before .before .before .before .before .before .before .before .before .before .before .loop) .from) ((c .before .before .before .before .before .before .before .before .before .before .before .before .before .before .before .before .before .before .next-mark) .result) ((c .before .before .before .before .before .before .before .before .before .before .before .before .before .before .before .before .next-mark2) .result) ((c .before .before .before .before .before .before .before .before .before .before .before .before .before .before .before .before .before .before .before .loop) .inv .0 .inside) ((c .before .before .before .before .before .before .before .before .before .before .before .before .before .before .before .before .before .before .before .loop) .inv .0 .even) ((c .before .before .before .before .before .before .before .before .before .before .before .before .before .before .before .before .before .before .next-mark) .ensures .0) (omega arith) ((c .before .before .before .before .before .before .before .before .before .before .before .before .before .before .before .before .next-mark2) .ensures .0) in
     let last = p .last in
     let gap = p .gap in
     let first = p .first in
@@ -157,8 +158,8 @@ loop-again : tie.Need-loop-again Inv-loop μ-loop
 loop-again c =
     let d = (c .before .before .before .before .before .before .before .before .before .before .before .before .before .before .before .before .before .if1) .left in
     let n = (c .before .before .before .before .before .before .before .before .before .before .before .before .before .before .before .before .before .before .next-mark) .ensures in
-    let p = pair-next ((c .before .before .before .before .before .before .before .before .before .before .before .before .before .before .before .before .before .before .before .before .before .before .before .before .args) .double) ((c .before .before .before .before .before .before .before .before .before .before .before .before .before .before .before .before .before .before .before .before .before .before .before .before .args) .s .now) ((c .before .before .before .before .before .before .before .before .before .before .before .before .before .before .before .before .before .before .before .before .before .before .before .before .pre .0) .apart) ((c .before .before .before .before .before .before .before .before .before .before .before .before .before .before .before .before .before .before .before .before .width) .result) ((c .before .before .before .before .before .before .before .before .before .before .before .before .before .before .before .before .before .before .before .before .width) .ensures) ((c .before .before .before .before .before .before .before .before .before .before .before .before .before .before .before .before .before .before .before .loop) .from) ((c .before .before .before .before .before .before .before .before .before .before .before .before .before .before .before .before .before .before .next-mark) .result) ((c .before .before .before .before .before .before .before .before .before .before .before .before .before .before .before .before .next-mark2) .result) ((c .before .before .before .before .before .before .before .before .before .before .before .before .before .before .before .before .before .before .before .loop) .inv .0 .inside) ((c .before .before .before .before .before .before .before .before .before .before .before .before .before .before .before .before .before .before .before .loop) .inv .0 .even) ((c .before .before .before .before .before .before .before .before .before .before .before .before .before .before .before .before .before .before .next-mark) .ensures .0) (omega arith) ((c .before .before .before .before .before .before .before .before .before .before .before .before .before .before .before .before .next-mark2) .ensures .0) in
-    (passing-more (length ((c .before .before .before .before .before .before .before .before .before .before .before .before .before .before .before .before .before .before .before .before .before .before .before .before .args) .store .now)) ((c .before .before .before .before .before .before .before .before .before .before .before .before .before .before .before .before .before .before .before .before .before .before .before .before .args) .display) ((c .before .before .before .before .before .before .before .before .before .before .before .before .before .before .before .before .before .before .before .before .before .before .before .before .args) .double) ((c .before .before .before .before .before .before .before .before .before .before .before .before .before .before .before .before .before .before .before .before .before .before .before .before .args) .s .now) ((c .before .before .before .before .before .before .before .before .before .before .before .before .before .before .before .before .before .before .before .before .width) .result) ((c .before .before .before .before .before .before .before .before .before .before .before .before .before .before .before .before .before .before .before .before .before .before .before .before .pre .0) .small) ((c .before .before .before .before .before .before .before .before .before .before .before .before .before .before .before .before .before .before .before .loop) .inv .0) ((c .before .before .before .before .before .before .before .before .before .before .before .before .before .before .before .before .before .before .next-mark) .result) ((c .before .before .before .before .before .before .before .before .before .before .before .before .before .before .before .before .next-mark2) .result) p ((c .before .before .before .before .before .before .before .before .before .before .before .before .before .lay2) .last .1 .0) ((c .before .before .before .before .before .before .before .before .before .before .before .before .before .lay2) .result) ((c .before .before .before .before .before .before .before .before .before .before .before .before .before .lay2) .ensures .0) ((c .before .before .before .before .before .before .before .before .before .before .before .before .before .lay2) .ensures .1) ((c .before .before .before .before .before .before .before .before .before .before .before .before .before .lay2) .kept .1 .0) ((c .before .end) .given .0 .0) ((c .before .before .before .before .before .before .before .lay-body) .kept .1 .1 .1 .0) (rw ((c .before .before .before .before .before .before .before .before .before .before .before .before .before .before .before .before .before .before .before .loop) .inv .1, (c .before .end) .given .1) at ((c .before .before .before .before .before .before .before .lay-body) .ensures)), (c .before .before .before .before .before .before .before .lay-body) .kept .1 .1 .0 ∙ (c .before .before .before .before .before .before .before .before .before .before .before .before .before .before .before .before .before .before .before .loop) .inv .1)
+    let p = pair-next ((c .before .before .before .before .before .before .before .before .before .before .before .before .before .before .before .before .before .before .before .before .before .before .before .before .args) .double) ((c .before .before .before .before .before .before .before .before .before .before .before .before .before .before .before .before .before .before .before .before .before .before .before .before .args) .s .now) (((c .before .before .before .before .before .before .before .before .before .before .before .before .before .before .before .before .before .before .before .before .before .before .before .before .pre) .0) .apart) ((c .before .before .before .before .before .before .before .before .before .before .before .before .before .before .before .before .before .before .before .before .width) .result) ((c .before .before .before .before .before .before .before .before .before .before .before .before .before .before .before .before .before .before .before .before .width) .ensures) ((c .before .before .before .before .before .before .before .before .before .before .before .before .before .before .before .before .before .before .before .loop) .from) ((c .before .before .before .before .before .before .before .before .before .before .before .before .before .before .before .before .before .before .next-mark) .result) ((c .before .before .before .before .before .before .before .before .before .before .before .before .before .before .before .before .next-mark2) .result) ((c .before .before .before .before .before .before .before .before .before .before .before .before .before .before .before .before .before .before .before .loop) .inv .0 .inside) ((c .before .before .before .before .before .before .before .before .before .before .before .before .before .before .before .before .before .before .before .loop) .inv .0 .even) ((c .before .before .before .before .before .before .before .before .before .before .before .before .before .before .before .before .before .before .next-mark) .ensures .0) (omega arith) ((c .before .before .before .before .before .before .before .before .before .before .before .before .before .before .before .before .next-mark2) .ensures .0) in
+    (passing-more ((c .before .before .before .before .before .before .before .before .before .before .before .before .before .before .before .before .before .before .before .before .before .before .before .before .args) .manner) (length ((c .before .before .before .before .before .before .before .before .before .before .before .before .before .before .before .before .before .before .before .before .before .before .before .before .args) .store .now)) ((c .before .before .before .before .before .before .before .before .before .before .before .before .before .before .before .before .before .before .before .before .before .before .before .before .args) .display) ((c .before .before .before .before .before .before .before .before .before .before .before .before .before .before .before .before .before .before .before .before .before .before .before .before .args) .double) ((c .before .before .before .before .before .before .before .before .before .before .before .before .before .before .before .before .before .before .before .before .before .before .before .before .args) .s .now) ((c .before .before .before .before .before .before .before .before .before .before .before .before .before .before .before .before .before .before .before .before .width) .result) (((c .before .before .before .before .before .before .before .before .before .before .before .before .before .before .before .before .before .before .before .before .before .before .before .before .pre) .0) .small) ((c .before .before .before .before .before .before .before .before .before .before .before .before .before .before .before .before .before .before .before .loop) .inv .0) ((c .before .before .before .before .before .before .before .before .before .before .before .before .before .before .before .before .before .before .next-mark) .result) ((c .before .before .before .before .before .before .before .before .before .before .before .before .before .before .before .before .next-mark2) .result) p ((c .before .before .before .before .before .before .before .before .before .before .before .before .before .lay2) .last .1 .0) ((c .before .before .before .before .before .before .before .before .before .before .before .before .before .lay2) .result) ((c .before .before .before .before .before .before .before .before .before .before .before .before .before .lay2) .ensures .0) ((c .before .before .before .before .before .before .before .before .before .before .before .before .before .lay2) .ensures .1) ((c .before .before .before .before .before .before .before .before .before .before .before .before .before .lay2) .kept .1 .0) ((c .before .end) .given .0 .0) ((c .before .before .before .before .before .before .before .lay-body) .kept .1 .1 .1 .1 .0) (rw ((c .before .before .before .before .before .before .before .before .before .before .before .before .before .before .before .before .before .before .before .loop) .inv .1, (c .before .end) .given .1) at ((c .before .before .before .before .before .before .before .lay-body) .ensures)), (c .before .before .before .before .before .before .before .lay-body) .kept .1 .1 .1 .0 ∙ (c .before .before .before .before .before .before .before .before .before .before .before .before .before .before .before .before .before .before .before .loop) .inv .1)
 
 pub substitute-spec : {M : Type 1} → statement M
 substitute-spec =

@@ -11,7 +11,7 @@ use Rattle.latex2mathml.proofs.replace.write_pass.Lts as lts
 use Rattle.latex2mathml.proofs.replace.substitute.Reads as substitute-reads
 
 substitute-requires : tie.Need-substitute-requires
-substitute-requires c κs = c .before .before .before .before .before .pre
+substitute-requires c κs = (c .before .before .before .before .before .pre)
 
 enum-known-end : tie.Need-enum-known-end
 enum-known-end c = search needs
@@ -28,7 +28,7 @@ same-length-2 c = search needs
 returns : tie.Need-returns
 returns c =
     let q = rw ((c .before .end) .given .1) at ((c .before .before .before .before .before .before .before .substitute) .ensures) in
-    (written-there ((c .before .before .before .before .before .before .before .before .before .before .before .before .before .pre .0) .fits refl) (q .0), q .1)
+    (written-there (((c .before .before .before .before .before .before .before .before .before .before .before .before .before .pre) .0) .fits refl) (q .0), q .1)
 
 same-length-3 : tie.Need-same-length-3
 same-length-3 c = search needs
@@ -40,7 +40,7 @@ returns-2 : tie.Need-returns-2
 returns-2 c =
     let q = rw ((c .before .r) .given .1) at ((c .before .before .before .before .before .before .before .substitute) .ensures) in
     let z = q .0 .0 in
-    let f = (c .before .before .before .before .before .before .before .before .before .before .before .before .before .pre .0) .fits refl .is in
+    let f = ((c .before .before .before .before .before .before .before .before .before .before .before .before .before .pre) .0) .fits refl .is in
     never cc
 
 pub write-pass-spec : {M : Type 1} → statement M

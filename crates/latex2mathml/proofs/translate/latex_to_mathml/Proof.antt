@@ -13,14 +13,14 @@ use Rattle.latex2mathml.proofs.translate.latex_to_mathml.Reads as reads
 use Rattle.latex2mathml.proofs.translate.latex_to_mathml.Lts as lts
 use Rattle.latex2mathml.proofs.translate.math_len.Reads as math-len-reads
 use Rattle.latex2mathml.proofs.translate.put_math.Reads as put-math-reads
-use Rattle.parse.proofs.body.parse.Reads as parse-reads
+use Rattle.latex2mathml.proofs.translate.read_body.Reads as read-body-reads
 use Rattle.text.proofs.has_nul.Reads as has-nul-reads
 use Rattle.text.proofs.well_formed.Reads as well-formed-reads
 use Rattle.token.proofs.table.table.Reads as table-reads
 
 returns : tie.Need-returns
 returns c =
-    let g = gives-nothing ((c .before .before .before .before .args) .out .now) (too-long ((c .before .before .before .before .args) .s .now) ((c .before .before .before .before .args) .display) (length ((c .before .before .before .before .args) .store .now)) (length ((c .before .before .before .before .args) .out .now)) ((c .if1) .taken)) in
+    let g = gives-nothing ((c .before .before .before .before .args) .out .now) (too-long ((c .before .before .before .before .args) .manner) ((c .before .before .before .before .args) .s .now) ((c .before .before .before .before .args) .display) (length ((c .before .before .before .before .args) .store .now)) (length ((c .before .before .before .before .args) .out .now)) ((c .if1) .taken)) in
     (g, refl)
 
 well-formed-requires : tie.Need-well-formed-requires
@@ -28,7 +28,7 @@ well-formed-requires c κs = search needs
 
 returns-2 : tie.Need-returns-2
 returns-2 c =
-    let g = gives-nothing ((c .before .before .before .before .before .before .args) .out .now) (ill-formed ((c .before .before .before .before .before .before .args) .s .now) ((c .before .before .before .before .before .before .args) .display) (length ((c .before .before .before .before .before .before .args) .store .now)) (length ((c .before .before .before .before .before .before .args) .out .now)) ((c .before .before .if1) .left) (sym ((c .before .well-formed) .ensures) ∙ not-true _ ((c .if2) .taken))) in
+    let g = gives-nothing ((c .before .before .before .before .before .before .args) .out .now) (ill-formed ((c .before .before .before .before .before .before .args) .manner) ((c .before .before .before .before .before .before .args) .s .now) ((c .before .before .before .before .before .before .args) .display) (length ((c .before .before .before .before .before .before .args) .store .now)) (length ((c .before .before .before .before .before .before .args) .out .now)) ((c .before .before .if1) .left) (sym ((c .before .well-formed) .ensures) ∙ not-true _ ((c .if2) .taken))) in
     (g, refl)
 
 has-nul-requires : tie.Need-has-nul-requires
@@ -36,14 +36,14 @@ has-nul-requires c κs = search needs
 
 returns-3 : tie.Need-returns-3
 returns-3 c =
-    let g = gives-nothing ((c .before .before .before .before .before .before .before .before .args) .out .now) (nul-byte ((c .before .before .before .before .before .before .before .before .args) .s .now) ((c .before .before .before .before .before .before .before .before .args) .display) (length ((c .before .before .before .before .before .before .before .before .args) .store .now)) (length ((c .before .before .before .before .before .before .before .before .args) .out .now)) ((c .before .before .before .before .if1) .left) (sym ((c .before .before .before .well-formed) .ensures) ∙ not-false _ ((c .before .before .if2) .left)) (sym ((c .before .has-nul) .ensures) ∙ (c .if3) .taken)) in
+    let g = gives-nothing ((c .before .before .before .before .before .before .before .before .args) .out .now) (nul-byte ((c .before .before .before .before .before .before .before .before .args) .manner) ((c .before .before .before .before .before .before .before .before .args) .s .now) ((c .before .before .before .before .before .before .before .before .args) .display) (length ((c .before .before .before .before .before .before .before .before .args) .store .now)) (length ((c .before .before .before .before .before .before .before .before .args) .out .now)) ((c .before .before .before .before .if1) .left) (sym ((c .before .before .before .well-formed) .ensures) ∙ not-false _ ((c .before .before .if2) .left)) (sym ((c .before .has-nul) .ensures) ∙ (c .if3) .taken)) in
     (g, refl)
 
 table-requires : tie.Need-table-requires
 table-requires c κs = search needs
 
-parse-requires : tie.Need-parse-requires
-parse-requires c κs = (c .before .before .table) .ensures
+read-body-requires : tie.Need-read-body-requires
+read-body-requires c κs = (c .before .before .table) .ensures
 
 enum-known-r : tie.Need-enum-known-r
 enum-known-r c = search needs
@@ -53,37 +53,37 @@ enum-known-first c = search needs
 
 cast-n : tie.Need-cast-n
 cast-n c =
-    let b = rw ((c .before .first) .given .1) at ((c .before .before .before .before .before .parse) .ensures) in
-    let f = few-nodes (length ((c .before .before .before .before .before .before .before .before .before .before .before .before .before .before .before .before .before .args) .store .now)) b ((c .before .before .before .before .before .before .before .before .before .before .before .before .before .if1) .left) in
+    let b = rw ((c .before .first) .given .1) at ((c .before .before .before .before .before .read-body) .ensures) in
+    let f = few-nodes ((c .before .before .before .before .before .before .before .before .before .before .before .before .before .before .before .before .before .args) .manner) (length ((c .before .before .before .before .before .before .before .before .before .before .before .before .before .before .before .before .before .args) .store .now)) b in
     omega arith
 
 math-len-requires : tie.Need-math-len-requires
 math-len-requires c κs =
-    let b = rw ((c .before .before .before .first) .given .1) at ((c .before .before .before .before .before .before .before .parse) .ensures) in
-    (measurable (length ((c .before .before .before .before .before .before .before .before .before .before .before .before .before .before .before .before .before .before .before .args) .store .now)) b ((c .before .before .before .before .before .before .before .before .before .before .before .before .before .before .before .before .before .before .before .args) .display) ((c .before .before .before .before .before .before .before .before .before .before .before .before .before .before .before .if1) .left), (c .before .before .before .before .before .before .before .before .before .before .table) .ensures)
+    let b = rw ((c .before .before .before .first) .given .1) at ((c .before .before .before .before .before .before .before .read-body) .ensures) in
+    (measurable ((c .before .before .before .before .before .before .before .before .before .before .before .before .before .before .before .before .before .before .before .args) .manner) (length ((c .before .before .before .before .before .before .before .before .before .before .before .before .before .before .before .before .before .before .before .args) .store .now)) b, (c .before .before .before .before .before .before .before .before .before .before .table) .ensures)
 
 same-length : tie.Need-same-length
 same-length c = search needs
 
 returns-4 : tie.Need-returns-4
 returns-4 c =
-    let b = rw ((c .before .before .before .before .before .first) .given .1) at ((c .before .before .before .before .before .before .before .before .before .parse) .ensures) in
-    let g = too-large (length ((c .before .before .before .before .before .before .before .before .before .before .before .before .before .before .before .before .before .before .before .before .before .args) .store .now)) b ((c .before .before .before .before .before .before .before .before .before .before .before .before .before .before .before .before .before .before .before .before .before .args) .display) ((c .before .before .before .before .before .before .before .before .before .before .before .before .before .before .before .before .before .if1) .left) ((c .before .math-len) .ensures) (sym ((c .before .before .before .before .before .before .before .before .before .before .before .before .before .before .before .before .well-formed) .ensures) ∙ not-false _ ((c .before .before .before .before .before .before .before .before .before .before .before .before .before .before .before .if2) .left)) (sym ((c .before .before .before .before .before .before .before .before .before .before .before .before .before .before .has-nul) .ensures) ∙ (c .before .before .before .before .before .before .before .before .before .before .before .before .before .if3) .left) ((c .if4) .taken) in
-    (g, (c .before .before .before .before .before .before .before .before .before .parse) .kept .1 .0)
+    let b = rw ((c .before .before .before .before .before .first) .given .1) at ((c .before .before .before .before .before .before .before .before .before .read-body) .ensures) in
+    let g = too-large ((c .before .before .before .before .before .before .before .before .before .before .before .before .before .before .before .before .before .before .before .before .before .args) .manner) (length ((c .before .before .before .before .before .before .before .before .before .before .before .before .before .before .before .before .before .before .before .before .before .args) .store .now)) b ((c .before .before .before .before .before .before .before .before .before .before .before .before .before .before .before .before .before .before .before .before .before .args) .display) ((c .before .math-len) .ensures) (sym ((c .before .before .before .before .before .before .before .before .before .before .before .before .before .before .before .before .well-formed) .ensures) ∙ not-false _ ((c .before .before .before .before .before .before .before .before .before .before .before .before .before .before .before .if2) .left)) (sym ((c .before .before .before .before .before .before .before .before .before .before .before .before .before .before .has-nul) .ensures) ∙ (c .before .before .before .before .before .before .before .before .before .before .before .before .before .if3) .left) ((c .if4) .taken) in
+    (g, (c .before .before .before .before .before .before .before .before .before .read-body) .kept .1 .1 .0)
 
 put-math-requires : tie.Need-put-math-requires
 put-math-requires c κs =
-    let b = rw ((c .before .before .before .before .before .before .before .before .first) .given .1) at ((c .before .before .before .before .before .before .before .before .before .before .before .before .parse) .ensures) in
-    (able-write (length ((c .before .before .before .before .before .before .before .before .before .before .before .before .before .before .before .before .before .before .before .before .before .before .before .before .args) .store .now)) b ((c .before .before .before .before .before .before .before .before .before .before .before .before .before .before .before .before .before .before .before .before .before .before .before .before .args) .display) ((c .before .before .before .before .before .before .before .before .before .before .before .before .before .before .before .before .before .before .before .before .if1) .left) ((c .before .before .before .before .math-len) .ensures) ((c .before .before .before .before .before .before .before .before .before .before .before .before .before .before .before .before .before .before .before .before .before .before .before .before .args) .out .now) ((c .before .before .before .if4) .left), (c .before .before .before .before .before .before .before .before .before .before .before .before .before .before .before .table) .ensures)
+    let b = rw ((c .before .before .before .before .before .before .before .before .first) .given .1) at ((c .before .before .before .before .before .before .before .before .before .before .before .before .read-body) .ensures) in
+    (able-write ((c .before .before .before .before .before .before .before .before .before .before .before .before .before .before .before .before .before .before .before .before .before .before .before .before .args) .manner) (length ((c .before .before .before .before .before .before .before .before .before .before .before .before .before .before .before .before .before .before .before .before .before .before .before .before .args) .store .now)) b ((c .before .before .before .before .before .before .before .before .before .before .before .before .before .before .before .before .before .before .before .before .before .before .before .before .args) .display) ((c .before .before .before .before .math-len) .ensures) ((c .before .before .before .before .before .before .before .before .before .before .before .before .before .before .before .before .before .before .before .before .before .before .before .before .args) .out .now) ((c .before .before .before .if4) .left), (c .before .before .before .before .before .before .before .before .before .before .before .before .before .before .before .table) .ensures)
 
 same-length-2 : tie.Need-same-length-2
 same-length-2 c = search needs
 
 returns-5 : tie.Need-returns-5
 returns-5 c =
-    let b = rw ((c .before .r) .given .1) at ((c .before .before .before .before .before .parse) .ensures) in
-    let g = gives-nothing ((c .before .before .before .before .before .before .before .before .before .before .before .before .before .before .before .before .before .args) .out .now) (body-no ((c .before .before .before .before .before .before .before .before .before .before .before .before .before .before .before .before .before .args) .s .now) ((c .before .before .before .before .before .before .before .before .before .before .before .before .before .before .before .before .before .args) .display) (length ((c .before .before .before .before .before .before .before .before .before .before .before .before .before .before .before .before .before .args) .store .now)) (length ((c .before .before .before .before .before .before .before .before .before .before .before .before .before .before .before .before .before .args) .out .now)) ((c .before .before .before .before .before .before .before .before .before .before .before .before .before .if1) .left) (sym ((c .before .before .before .before .before .before .before .before .before .before .before .before .well-formed) .ensures) ∙ not-false _ ((c .before .before .before .before .before .before .before .before .before .before .before .if2) .left)) (sym ((c .before .before .before .before .before .before .before .before .before .before .has-nul) .ensures) ∙ (c .before .before .before .before .before .before .before .before .before .if3) .left) b) in
-    (g, (c .before .before .before .before .before .parse) .kept .1 .0)
+    let b = rw ((c .before .r) .given .1) at ((c .before .before .before .before .before .read-body) .ensures) in
+    let g = gives-nothing ((c .before .before .before .before .before .before .before .before .before .before .before .before .before .before .before .before .before .args) .out .now) (body-no ((c .before .before .before .before .before .before .before .before .before .before .before .before .before .before .before .before .before .args) .manner) ((c .before .before .before .before .before .before .before .before .before .before .before .before .before .before .before .before .before .args) .s .now) ((c .before .before .before .before .before .before .before .before .before .before .before .before .before .before .before .before .before .args) .display) (length ((c .before .before .before .before .before .before .before .before .before .before .before .before .before .before .before .before .before .args) .store .now)) (length ((c .before .before .before .before .before .before .before .before .before .before .before .before .before .before .before .before .before .args) .out .now)) ((c .before .before .before .before .before .before .before .before .before .before .before .before .before .if1) .left) (sym ((c .before .before .before .before .before .before .before .before .before .before .before .before .well-formed) .ensures) ∙ not-false _ ((c .before .before .before .before .before .before .before .before .before .before .before .if2) .left)) (sym ((c .before .before .before .before .before .before .before .before .before .before .has-nul) .ensures) ∙ (c .before .before .before .before .before .before .before .before .before .if3) .left) b) in
+    (g, (c .before .before .before .before .before .read-body) .kept .1 .1 .0)
 
 same-length-3 : tie.Need-same-length-3
 same-length-3 c = search needs
@@ -93,9 +93,9 @@ same-length-4 c = search needs
 
 returns-6 : tie.Need-returns-6
 returns-6 c =
-    let b = rw ((c .before .before .before .before .before .before .before .before .before .before .before .first) .given .1) at ((c .before .before .before .before .before .before .before .before .before .before .before .before .before .before .before .parse) .ensures) in
-    let g = written (length ((c .before .before .before .before .before .before .before .before .before .before .before .before .before .before .before .before .before .before .before .before .before .before .before .before .before .before .before .args) .store .now)) b ((c .before .before .before .before .before .before .before .before .before .before .before .before .before .before .before .before .before .before .before .before .before .before .before .before .before .before .before .args) .display) ((c .before .before .before .before .before .before .before .before .before .before .before .before .before .before .before .before .before .before .before .before .before .before .before .if1) .left) ((c .before .before .before .before .before .before .before .math-len) .ensures) (sym ((c .before .before .before .before .before .before .before .before .before .before .before .before .before .before .before .before .before .before .before .before .before .before .well-formed) .ensures) ∙ not-false _ ((c .before .before .before .before .before .before .before .before .before .before .before .before .before .before .before .before .before .before .before .before .before .if2) .left)) (sym ((c .before .before .before .before .before .before .before .before .before .before .before .before .before .before .before .before .before .before .before .before .has-nul) .ensures) ∙ (c .before .before .before .before .before .before .before .before .before .before .before .before .before .before .before .before .before .before .before .if3) .left) ((c .before .before .before .before .before .before .if4) .left) ((c .before .before .put-math) .ensures) in
-    (g, (c .before .before .before .before .before .before .before .before .before .before .before .before .before .before .before .parse) .kept .1 .0)
+    let b = rw ((c .before .before .before .before .before .before .before .before .before .before .before .first) .given .1) at ((c .before .before .before .before .before .before .before .before .before .before .before .before .before .before .before .read-body) .ensures) in
+    let g = written ((c .before .before .before .before .before .before .before .before .before .before .before .before .before .before .before .before .before .before .before .before .before .before .before .before .before .before .before .args) .manner) (length ((c .before .before .before .before .before .before .before .before .before .before .before .before .before .before .before .before .before .before .before .before .before .before .before .before .before .before .before .args) .store .now)) b ((c .before .before .before .before .before .before .before .before .before .before .before .before .before .before .before .before .before .before .before .before .before .before .before .before .before .before .before .args) .display) ((c .before .before .before .before .before .before .before .math-len) .ensures) (sym ((c .before .before .before .before .before .before .before .before .before .before .before .before .before .before .before .before .before .before .before .before .before .before .well-formed) .ensures) ∙ not-false _ ((c .before .before .before .before .before .before .before .before .before .before .before .before .before .before .before .before .before .before .before .before .before .if2) .left)) (sym ((c .before .before .before .before .before .before .before .before .before .before .before .before .before .before .before .before .before .before .before .before .has-nul) .ensures) ∙ (c .before .before .before .before .before .before .before .before .before .before .before .before .before .before .before .before .before .before .before .if3) .left) ((c .before .before .before .before .before .before .if4) .left) ((c .before .before .put-math) .ensures) in
+    (g, (c .before .before .before .before .before .before .before .before .before .before .before .before .before .before .before .read-body) .kept .1 .1 .0)
 
 pub latex-to-mathml-spec : {M : Type 1} → statement M
 latex-to-mathml-spec =
@@ -107,7 +107,7 @@ latex-to-mathml-spec =
     has-nul-requires
     returns-3
     table-requires
-    parse-requires
+    read-body-requires
     enum-known-r
     enum-known-first
     cast-n

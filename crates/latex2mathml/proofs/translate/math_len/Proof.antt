@@ -8,7 +8,6 @@ use Rattle.latex2mathml.proofs.translate.math_len.Tie as tie
 use Rattle.latex2mathml.proofs.translate.math_len.Reads as reads
 use Rattle.latex2mathml.proofs.translate.math_len.Lts as lts
 use Rattle.latex2mathml.proofs.translate.wrapper_len.Reads as wrapper-len-reads
-use Rattle.print.proofs.measure.measure.Reads as measure-reads
 
 measure-requires : tie.Need-measure-requires
 measure-requires c κs = (c .before .before .pre)

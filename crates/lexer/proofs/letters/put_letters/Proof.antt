@@ -8,20 +8,16 @@ use borrow.Author.Needs.{needs}
 use native.Mathlib.Omega.{arith}
 use Rattle.lexer.proofs.letters.put_letters.Statement.{statement}
 use Rattle.lexer.proofs.letters.put_letters.Tie as tie
-use Rattle.lexer.proofs.letters.put_letters.Reads as reads
-use Rattle.lexer.proofs.letters.put_letters.Lts as lts
-use Rattle.lexer.proofs.reader.token_from.Reads as token-from-reads
-use Rattle.text.proofs.put.put_code_point.Reads as put-code-point-reads
 
 abbrev Inv-loop : tie.InvT-loop
-Inv-loop t out₀ at write table place₀ i₀ out place i = Reading write out₀ out at place t i
+Inv-loop dialect t out₀ at write table place₀ i₀ out place i = Reading dialect write out₀ out at place t i
 
 abbrev μ-loop : tie.MeasureT-loop
-μ-loop t out₀ at write table place₀ i₀ out place i = length t - i
+μ-loop dialect t out₀ at write table place₀ i₀ out place i = length t - i
 
 loop-holds : tie.Need-loop-holds Inv-loop μ-loop
 loop-holds c =
-    reading-none ((c .before .before .args) .write) ((c .before .before .args) .out .now) ((c .before .before .args) .at) ((c .before .before .args) .t .now)
+    reading-none ((c .before .before .args) .dialect) ((c .before .before .args) .write) ((c .before .before .args) .out .now) ((c .before .before .args) .at) ((c .before .before .args) .t .now)
 
 sub-rest : tie.Need-sub-rest Inv-loop μ-loop
 sub-rest c = (c .loop) .inv .inside
@@ -38,8 +34,8 @@ token-from-requires c κs = search needs
 enum-known-token : tie.Need-enum-known-token Inv-loop μ-loop
 enum-known-token c = search needs
 
-put-code-point-requires : tie.Need-put-code-point-requires Inv-loop μ-loop
-put-code-point-requires c κs =
+put-character-requires : tie.Need-put-character-requires Inv-loop μ-loop
+put-character-requires c κs =
     reading-room (c .before .before .before .before .before .before .before .before .before .pre .0) ((c .before .before .before .before .before .before .loop) .inv) ((c .before .before .before .before .token-from) .result) ((c .before .before .before .before .token-from) .ensures .0) _ _ ((c .before .before .token) .given .1)
 
 add-i : tie.Need-add-i Inv-loop μ-loop
@@ -52,7 +48,7 @@ loop-less c =
 
 loop-again : tie.Need-loop-again Inv-loop μ-loop
 loop-again c =
-    reading-more (c .before .before .before .before .before .before .before .before .before .before .before .before .before .pre .0) ((c .before .before .before .before .before .before .before .before .before .before .loop) .inv) ((c .before .before .before .before .before .before .before .before .token-from) .result) ((c .before .before .before .before .before .before .before .before .token-from) .ensures .0) _ _ ((c .before .before .before .before .before .before .token) .given .1) ((c .before .before .before .put-code-point) .ensures)
+    reading-more (c .before .before .before .before .before .before .before .before .before .before .before .before .before .pre .0) ((c .before .before .before .before .before .before .before .before .before .before .loop) .inv) ((c .before .before .before .before .before .before .before .before .token-from) .result) ((c .before .before .before .before .before .before .before .before .token-from) .ensures .0) _ _ ((c .before .before .before .before .before .before .token) .given .1) ((c .before .before .before .put-character) .ensures)
 
 same-length : tie.Need-same-length Inv-loop μ-loop
 same-length c =
@@ -74,7 +70,7 @@ put-letters-spec =
     part-rest-end
     token-from-requires
     enum-known-token
-    put-code-point-requires
+    put-character-requires
     add-i
     loop-less
     loop-again

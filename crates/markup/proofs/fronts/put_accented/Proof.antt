@@ -1,7 +1,7 @@
 -- `markup::fronts::put_accented` meets its contract.
 -- Assumes nothing.
 use mathlib.Core.List.{_++_}
-use Rattle.text.specs.Utf8.{encode}
+use Rattle.markup.specs.Print.{character}
 use Rattle.text.specs.Text.{bytes}
 use Rattle.text.specs.Examples.{text-opens}
 use Rattle.text.proofs.PutLaws.{room-1, room-2, room-3, puts-3}
@@ -11,11 +11,6 @@ use borrow.Author.Needs.{needs}
 use native.Mathlib.Omega.{arith}
 use Rattle.markup.proofs.fronts.put_accented.Statement.{statement}
 use Rattle.markup.proofs.fronts.put_accented.Tie as tie
-use Rattle.markup.proofs.fronts.put_accented.Reads as reads
-use Rattle.markup.proofs.fronts.put_accented.Lts as lts
-use Rattle.markup.proofs.leaf.put_character_in.Reads as put-character-in-reads
-use Rattle.attribute.proofs.put_accent.Reads as put-accent-reads
-use Rattle.text.proofs.put.put.Reads as put-reads
 
 slice-aggregate-put : tie.Need-slice-aggregate-put
 slice-aggregate-put c = search needs
@@ -23,12 +18,12 @@ slice-aggregate-put c = search needs
 put-requires : tie.Need-put-requires
 unfolding text-opens accentText
 put-requires c κs =
-    room-1 (bytes "<mo accent=\"") (bytes (accent ((c .before .before .before .before .args) .a))) (bytes "\">" ++ encode ((c .before .before .before .before .args) .c) ++ (c .before .before .before .before .args) .end .now) ((c .before .before .before .before .pre))
+    room-1 (bytes "<mo accent=\"") (bytes (accent ((c .before .before .before .before .args) .a))) (bytes "\">" ++ character ((c .before .before .before .before .args) .dialect) ((c .before .before .before .before .args) .c) ++ (c .before .before .before .before .args) .end .now) ((c .before .before .before .before .pre))
 
 put-accent-requires : tie.Need-put-accent-requires
 unfolding text-opens accentText
 put-accent-requires c κs =
-    room-2 (bytes "<mo accent=\"") (bytes (accent ((c .before .before .before .before .before .before .before .before .args) .a))) (bytes "\">" ++ encode ((c .before .before .before .before .before .before .before .before .args) .c) ++ (c .before .before .before .before .before .before .before .before .args) .end .now) ((c .before .before .before .before .before .before .before .before .pre)) ((c .before .before .before .put) .ensures)
+    room-2 (bytes "<mo accent=\"") (bytes (accent ((c .before .before .before .before .before .before .before .before .args) .a))) (bytes "\">" ++ character ((c .before .before .before .before .before .before .before .before .args) .dialect) ((c .before .before .before .before .before .before .before .before .args) .c) ++ (c .before .before .before .before .before .before .before .before .args) .end .now) ((c .before .before .before .before .before .before .before .before .pre)) ((c .before .before .before .put) .ensures)
 
 slice-aggregate-put-character-in : tie.Need-slice-aggregate-put-character-in
 slice-aggregate-put-character-in c = search needs
@@ -36,7 +31,7 @@ slice-aggregate-put-character-in c = search needs
 put-character-in-requires : tie.Need-put-character-in-requires
 unfolding text-opens accentText
 put-character-in-requires c κs =
-    room-3 (bytes "<mo accent=\"") (bytes (accent ((c .before .before .before .before .before .before .before .before .before .before .before .before .before .args) .a))) (bytes "\">" ++ encode ((c .before .before .before .before .before .before .before .before .before .before .before .before .before .args) .c) ++ (c .before .before .before .before .before .before .before .before .before .before .before .before .before .args) .end .now) ((c .before .before .before .before .before .before .before .before .before .before .before .before .before .pre)) ((c .before .before .before .before .before .before .before .before .put) .ensures) ((c .before .before .before .before .put-accent) .ensures)
+    room-3 (bytes "<mo accent=\"") (bytes (accent ((c .before .before .before .before .before .before .before .before .before .before .before .before .before .args) .a))) (bytes "\">" ++ character ((c .before .before .before .before .before .before .before .before .before .before .before .before .before .args) .dialect) ((c .before .before .before .before .before .before .before .before .before .before .before .before .before .args) .c) ++ (c .before .before .before .before .before .before .before .before .before .before .before .before .before .args) .end .now) ((c .before .before .before .before .before .before .before .before .before .before .before .before .before .pre)) ((c .before .before .before .before .before .before .before .before .put) .ensures) ((c .before .before .before .before .put-accent) .ensures)
 
 same-length : tie.Need-same-length
 same-length c = search needs
@@ -44,7 +39,7 @@ same-length c = search needs
 returns : tie.Need-returns
 unfolding text-opens accentText
 returns c =
-    puts-3 (bytes "<mo accent=\"") (bytes (accent ((c .before .before .before .before .before .before .before .before .before .before .before .before .before .before .before .before .args) .a))) (bytes "\">" ++ encode ((c .before .before .before .before .before .before .before .before .before .before .before .before .before .before .before .before .args) .c) ++ (c .before .before .before .before .before .before .before .before .before .before .before .before .before .before .before .before .args) .end .now) ((c .before .before .before .before .before .before .before .before .before .before .before .before .before .before .before .before .pre)) ((c .before .before .before .before .before .before .before .before .before .before .before .put) .ensures) ((c .before .before .before .before .before .before .before .put-accent) .ensures) ((c .before .before .put-character-in) .ensures)
+    puts-3 (bytes "<mo accent=\"") (bytes (accent ((c .before .before .before .before .before .before .before .before .before .before .before .before .before .before .before .before .args) .a))) (bytes "\">" ++ character ((c .before .before .before .before .before .before .before .before .before .before .before .before .before .before .before .before .args) .dialect) ((c .before .before .before .before .before .before .before .before .before .before .before .before .before .before .before .before .args) .c) ++ (c .before .before .before .before .before .before .before .before .before .before .before .before .before .before .before .before .args) .end .now) ((c .before .before .before .before .before .before .before .before .before .before .before .before .before .before .before .before .pre)) ((c .before .before .before .before .before .before .before .before .before .before .before .put) .ensures) ((c .before .before .before .before .before .before .before .put-accent) .ensures) ((c .before .before .put-character-in) .ensures)
 
 pub put-accented-spec : {M : Type 1} → statement M
 put-accented-spec =

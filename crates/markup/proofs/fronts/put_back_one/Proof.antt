@@ -6,11 +6,6 @@ use borrow.Author.Needs.{needs}
 use native.Mathlib.Omega.{arith}
 use Rattle.markup.proofs.fronts.put_back_one.Statement.{statement}
 use Rattle.markup.proofs.fronts.put_back_one.Tie as tie
-use Rattle.markup.proofs.fronts.put_back_one.Reads as reads
-use Rattle.markup.proofs.fronts.put_back_one.Lts as lts
-use Rattle.markup.proofs.fronts.put_accented.Reads as put-accented-reads
-use Rattle.markup.proofs.leaf.put_text_in.Reads as put-text-in-reads
-use Rattle.text.proofs.put.put.Reads as put-reads
 
 enum-known-k : tie.Need-enum-known-k
 enum-known-k c = search needs

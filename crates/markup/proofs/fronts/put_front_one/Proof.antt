@@ -6,11 +6,6 @@ use borrow.Author.Needs.{needs}
 use native.Mathlib.Omega.{arith}
 use Rattle.markup.proofs.fronts.put_front_one.Statement.{statement}
 use Rattle.markup.proofs.fronts.put_front_one.Tie as tie
-use Rattle.markup.proofs.fronts.put_front_one.Reads as reads
-use Rattle.markup.proofs.fronts.put_front_one.Lts as lts
-use Rattle.markup.proofs.fronts.put_style.Reads as put-style-reads
-use Rattle.markup.proofs.leaf.put_text_in.Reads as put-text-in-reads
-use Rattle.text.proofs.put.put.Reads as put-reads
 
 enum-told : tie.Need-enum-told
 enum-told c = search needs

@@ -1,15 +1,12 @@
 -- `markup::fronts::put_style` meets its contract.
 -- Assumes nothing.
 use Rattle.text.specs.Examples.{text-opens}
-use Rattle.markup.specs.Fronts.{frontOne}
+use Rattle.markup.specs.Fronts.{styleFront}
 use Rattle.markup.specs.Print.{displayText}
 use borrow.Author.Needs.{needs}
 use native.Mathlib.Omega.{arith}
 use Rattle.markup.proofs.fronts.put_style.Statement.{statement}
 use Rattle.markup.proofs.fronts.put_style.Tie as tie
-use Rattle.markup.proofs.fronts.put_style.Reads as reads
-use Rattle.markup.proofs.fronts.put_style.Lts as lts
-use Rattle.text.proofs.put.put.Reads as put-reads
 
 enum-told : tie.Need-enum-told
 enum-told c = search needs
@@ -18,7 +15,7 @@ slice-aggregate-put : tie.Need-slice-aggregate-put
 slice-aggregate-put c = search needs
 
 put-requires : tie.Need-put-requires
-unfolding text-opens frontOne displayText
+unfolding text-opens styleFront displayText
 put-requires c κs =
     rw ((c .before .before .before .before .enum-told) .given .1) at ((c .before .before .before .before .before .before .before .pre))
 
@@ -29,7 +26,7 @@ slice-aggregate-put-2 : tie.Need-slice-aggregate-put-2
 slice-aggregate-put-2 c = search needs
 
 put-requires-2 : tie.Need-put-requires-2
-unfolding text-opens frontOne displayText
+unfolding text-opens styleFront displayText
 put-requires-2 c κs =
     rw ((c .before .before .before .before .enum-told2) .given .1) at ((c .before .before .before .before .before .before .before .pre))
 
@@ -37,7 +34,7 @@ same-length : tie.Need-same-length
 same-length c = search needs
 
 returns : tie.Need-returns
-unfolding text-opens frontOne displayText
+unfolding text-opens styleFront displayText
 returns c =
     rw ((c .before .before .before .before .before .before .before .enum-told) .given .1) ((c .before .before .put) .ensures)
 
@@ -45,7 +42,7 @@ same-length-2 : tie.Need-same-length-2
 same-length-2 c = search needs
 
 returns-2 : tie.Need-returns-2
-unfolding text-opens frontOne displayText
+unfolding text-opens styleFront displayText
 returns-2 c =
     rw ((c .before .before .before .before .before .before .before .enum-told2) .given .1) ((c .before .before .put2) .ensures)
 

@@ -9,19 +9,6 @@ use borrow.Author.Needs.{needs}
 use native.Mathlib.Omega.{arith}
 use Rattle.markup.proofs.leaf.put_leaf.Statement.{statement}
 use Rattle.markup.proofs.leaf.put_leaf.Tie as tie
-use Rattle.markup.proofs.leaf.put_leaf.Reads as reads
-use Rattle.markup.proofs.leaf.put_leaf.Lts as lts
-use Rattle.markup.proofs.leaf.put_ampersand.Reads as put-ampersand-reads
-use Rattle.markup.proofs.leaf.put_letter_at.Reads as put-letter-at-reads
-use Rattle.markup.proofs.leaf.put_letters_in.Reads as put-letters-in-reads
-use Rattle.markup.proofs.leaf.put_new_line.Reads as put-new-line-reads
-use Rattle.markup.proofs.leaf.put_operator_at.Reads as put-operator-at-reads
-use Rattle.markup.proofs.leaf.put_part_in.Reads as put-part-in-reads
-use Rattle.markup.proofs.leaf.put_sized_paren.Reads as put-sized-paren-reads
-use Rattle.markup.proofs.leaf.put_stretched.Reads as put-stretched-reads
-use Rattle.markup.proofs.leaf.put_text_in.Reads as put-text-in-reads
-use Rattle.markup.proofs.leaf.put_undefined.Reads as put-undefined-reads
-use Rattle.markup.proofs.leaf.put_width_in.Reads as put-width-in-reads
 
 enum-known-l : tie.Need-enum-known-l
 enum-known-l c = search needs
@@ -35,7 +22,7 @@ slice-aggregate-put-part-in-2 c = search needs
 put-part-in-requires : tie.Need-put-part-in-requires
 unfolding text-opens printLeaf parseError slashLeaf cellLeaf
 put-part-in-requires c κs =
-    let e = anywhere ((c .before .before .before .before .before .before .before .before .before .before .before .before .args) .place) (printLeaf ((c .before .before .before .before .before .before .before .before .before .before .before .before .args) .s .now) ((c .before .before .before .before .before .before .before .before .before .before .before .before .args) .l)) ((c .before .before .before .before .before .before .before .before .l) .given .1) refl refl in
+    let e = anywhere ((c .before .before .before .before .before .before .before .before .before .before .before .before .args) .dialect) ((c .before .before .before .before .before .before .before .before .before .before .before .before .args) .place) (printLeaf ((c .before .before .before .before .before .before .before .before .before .before .before .before .args) .dialect) ((c .before .before .before .before .before .before .before .before .before .before .before .before .args) .s .now) ((c .before .before .before .before .before .before .before .before .before .before .before .before .args) .l)) ((c .before .before .before .before .before .before .before .before .l) .given .1) refl refl in
     let p = rw ((c .before .before .before .before .before .before .before .before .l) .given .1) at ((c .before .before .before .before .before .before .before .before .before .before .before .before .pre) .0) in
     (p .0, p .1, rw ((c .before .before .before .before .before .before .before .before .l) .given .1) at (room-as e ((c .before .before .before .before .before .before .before .before .before .before .before .before .pre) .1)))
 
@@ -67,7 +54,7 @@ slice-aggregate-put-text-in-2 c = search needs
 put-text-in-requires : tie.Need-put-text-in-requires
 unfolding text-opens printLeaf parseError slashLeaf cellLeaf
 put-text-in-requires c κs =
-    let e = anywhere ((c .before .before .before .before .before .before .before .before .before .before .before .before .args) .place) (printLeaf ((c .before .before .before .before .before .before .before .before .before .before .before .before .args) .s .now) ((c .before .before .before .before .before .before .before .before .before .before .before .before .args) .l)) ((c .before .before .before .before .before .before .before .before .l4) .given .1) refl refl in
+    let e = anywhere ((c .before .before .before .before .before .before .before .before .before .before .before .before .args) .dialect) ((c .before .before .before .before .before .before .before .before .before .before .before .before .args) .place) (printLeaf ((c .before .before .before .before .before .before .before .before .before .before .before .before .args) .dialect) ((c .before .before .before .before .before .before .before .before .before .before .before .before .args) .s .now) ((c .before .before .before .before .before .before .before .before .before .before .before .before .args) .l)) ((c .before .before .before .before .before .before .before .before .l4) .given .1) refl refl in
     rw ((c .before .before .before .before .before .before .before .before .l4) .given .1) at (room-as e ((c .before .before .before .before .before .before .before .before .before .before .before .before .pre) .1))
 
 enum-known-l-5 : tie.Need-enum-known-l-5
@@ -82,7 +69,7 @@ slice-aggregate-put-letters-in-2 c = search needs
 put-letters-in-requires : tie.Need-put-letters-in-requires
 unfolding text-opens printLeaf parseError slashLeaf cellLeaf
 put-letters-in-requires c κs =
-    let e = anywhere ((c .before .before .before .before .before .before .before .before .before .before .before .before .args) .place) (printLeaf ((c .before .before .before .before .before .before .before .before .before .before .before .before .args) .s .now) ((c .before .before .before .before .before .before .before .before .before .before .before .before .args) .l)) ((c .before .before .before .before .before .before .before .before .l5) .given .1) refl refl in
+    let e = anywhere ((c .before .before .before .before .before .before .before .before .before .before .before .before .args) .dialect) ((c .before .before .before .before .before .before .before .before .before .before .before .before .args) .place) (printLeaf ((c .before .before .before .before .before .before .before .before .before .before .before .before .args) .dialect) ((c .before .before .before .before .before .before .before .before .before .before .before .before .args) .s .now) ((c .before .before .before .before .before .before .before .before .before .before .before .before .args) .l)) ((c .before .before .before .before .before .before .before .before .l5) .given .1) refl refl in
     let p = rw ((c .before .before .before .before .before .before .before .before .l5) .given .1) at ((c .before .before .before .before .before .before .before .before .before .before .before .before .pre) .0) in
     (p .0, p .1, rw ((c .before .before .before .before .before .before .before .before .l5) .given .1) at (room-as e ((c .before .before .before .before .before .before .before .before .before .before .before .before .pre) .1)), (c .before .before .before .before .before .before .before .before .before .before .before .before .pre) .2)
 
@@ -98,7 +85,7 @@ slice-aggregate-put-width-in-2 c = search needs
 put-width-in-requires : tie.Need-put-width-in-requires
 unfolding text-opens printLeaf parseError slashLeaf cellLeaf
 put-width-in-requires c κs =
-    let e = anywhere ((c .before .before .before .before .before .before .before .before .before .before .before .before .args) .place) (printLeaf ((c .before .before .before .before .before .before .before .before .before .before .before .before .args) .s .now) ((c .before .before .before .before .before .before .before .before .before .before .before .before .args) .l)) ((c .before .before .before .before .before .before .before .before .l6) .given .1) refl refl in
+    let e = anywhere ((c .before .before .before .before .before .before .before .before .before .before .before .before .args) .dialect) ((c .before .before .before .before .before .before .before .before .before .before .before .before .args) .place) (printLeaf ((c .before .before .before .before .before .before .before .before .before .before .before .before .args) .dialect) ((c .before .before .before .before .before .before .before .before .before .before .before .before .args) .s .now) ((c .before .before .before .before .before .before .before .before .before .before .before .before .args) .l)) ((c .before .before .before .before .before .before .before .before .l6) .given .1) refl refl in
     rw ((c .before .before .before .before .before .before .before .before .l6) .given .1) at (room-as e ((c .before .before .before .before .before .before .before .before .before .before .before .before .pre) .1))
 
 enum-known-l-7 : tie.Need-enum-known-l-7
@@ -107,7 +94,7 @@ enum-known-l-7 c = search needs
 put-stretched-requires : tie.Need-put-stretched-requires
 unfolding text-opens printLeaf parseError slashLeaf cellLeaf
 put-stretched-requires c κs =
-    let e = anywhere ((c .before .before .before .before .before .before .args) .place) (printLeaf ((c .before .before .before .before .before .before .args) .s .now) ((c .before .before .before .before .before .before .args) .l)) ((c .before .before .l7) .given .1) refl refl in
+    let e = anywhere ((c .before .before .before .before .before .before .args) .dialect) ((c .before .before .before .before .before .before .args) .place) (printLeaf ((c .before .before .before .before .before .before .args) .dialect) ((c .before .before .before .before .before .before .args) .s .now) ((c .before .before .before .before .before .before .args) .l)) ((c .before .before .l7) .given .1) refl refl in
     rw ((c .before .before .l7) .given .1) at (room-as e ((c .before .before .before .before .before .before .pre) .1))
 
 enum-known-l-8 : tie.Need-enum-known-l-8
@@ -122,7 +109,7 @@ slice-aggregate-put-text-in-4 c = search needs
 put-text-in-requires-2 : tie.Need-put-text-in-requires-2
 unfolding text-opens printLeaf parseError slashLeaf cellLeaf
 put-text-in-requires-2 c κs =
-    let e = anywhere ((c .before .before .before .before .before .before .before .before .before .before .before .before .args) .place) (printLeaf ((c .before .before .before .before .before .before .before .before .before .before .before .before .args) .s .now) ((c .before .before .before .before .before .before .before .before .before .before .before .before .args) .l)) ((c .before .before .before .before .before .before .before .before .l8) .given .1) refl refl in
+    let e = anywhere ((c .before .before .before .before .before .before .before .before .before .before .before .before .args) .dialect) ((c .before .before .before .before .before .before .before .before .before .before .before .before .args) .place) (printLeaf ((c .before .before .before .before .before .before .before .before .before .before .before .before .args) .dialect) ((c .before .before .before .before .before .before .before .before .before .before .before .before .args) .s .now) ((c .before .before .before .before .before .before .before .before .before .before .before .before .args) .l)) ((c .before .before .before .before .before .before .before .before .l8) .given .1) refl refl in
     rw ((c .before .before .before .before .before .before .before .before .l8) .given .1) at (room-as e ((c .before .before .before .before .before .before .before .before .before .before .before .before .pre) .1))
 
 enum-known-l-9 : tie.Need-enum-known-l-9
@@ -131,7 +118,7 @@ enum-known-l-9 c = search needs
 put-sized-paren-requires : tie.Need-put-sized-paren-requires
 unfolding text-opens printLeaf parseError slashLeaf cellLeaf
 put-sized-paren-requires c κs =
-    let e = anywhere ((c .before .before .before .before .before .before .args) .place) (printLeaf ((c .before .before .before .before .before .before .args) .s .now) ((c .before .before .before .before .before .before .args) .l)) ((c .before .before .l9) .given .1) refl refl in
+    let e = anywhere ((c .before .before .before .before .before .before .args) .dialect) ((c .before .before .before .before .before .before .args) .place) (printLeaf ((c .before .before .before .before .before .before .args) .dialect) ((c .before .before .before .before .before .before .args) .s .now) ((c .before .before .before .before .before .before .args) .l)) ((c .before .before .l9) .given .1) refl refl in
     rw ((c .before .before .l9) .given .1) at (room-as e ((c .before .before .before .before .before .before .pre) .1))
 
 enum-known-l-10 : tie.Need-enum-known-l-10
@@ -146,7 +133,7 @@ slice-aggregate-put-letters-in-4 c = search needs
 put-letters-in-requires-2 : tie.Need-put-letters-in-requires-2
 unfolding text-opens printLeaf parseError slashLeaf cellLeaf
 put-letters-in-requires-2 c κs =
-    let e = anywhere ((c .before .before .before .before .before .before .before .before .before .before .before .before .args) .place) (printLeaf ((c .before .before .before .before .before .before .before .before .before .before .before .before .args) .s .now) ((c .before .before .before .before .before .before .before .before .before .before .before .before .args) .l)) ((c .before .before .before .before .before .before .before .before .l10) .given .1) refl refl in
+    let e = anywhere ((c .before .before .before .before .before .before .before .before .before .before .before .before .args) .dialect) ((c .before .before .before .before .before .before .before .before .before .before .before .before .args) .place) (printLeaf ((c .before .before .before .before .before .before .before .before .before .before .before .before .args) .dialect) ((c .before .before .before .before .before .before .before .before .before .before .before .before .args) .s .now) ((c .before .before .before .before .before .before .before .before .before .before .before .before .args) .l)) ((c .before .before .before .before .before .before .before .before .l10) .given .1) refl refl in
     let p = rw ((c .before .before .before .before .before .before .before .before .l10) .given .1) at ((c .before .before .before .before .before .before .before .before .before .before .before .before .pre) .0) in
     (p .0, p .1, rw ((c .before .before .before .before .before .before .before .before .l10) .given .1) at (room-as e ((c .before .before .before .before .before .before .before .before .before .before .before .before .pre) .1)), (c .before .before .before .before .before .before .before .before .before .before .before .before .pre) .2)
 
@@ -172,7 +159,7 @@ enum-known-l-11 c = search needs
 put-undefined-requires : tie.Need-put-undefined-requires
 unfolding text-opens printLeaf parseError slashLeaf cellLeaf
 put-undefined-requires c κs =
-    let e = anywhere ((c .before .before .before .before .before .before .args) .place) (printLeaf ((c .before .before .before .before .before .before .args) .s .now) ((c .before .before .before .before .before .before .args) .l)) ((c .before .before .l11) .given .1) refl refl in
+    let e = anywhere ((c .before .before .before .before .before .before .args) .dialect) ((c .before .before .before .before .before .before .args) .place) (printLeaf ((c .before .before .before .before .before .before .args) .dialect) ((c .before .before .before .before .before .before .args) .s .now) ((c .before .before .before .before .before .before .args) .l)) ((c .before .before .l11) .given .1) refl refl in
     (rw ((c .before .before .l11) .given .1) at ((c .before .before .before .before .before .before .pre) .0), rw ((c .before .before .l11) .given .1) at (room-as e ((c .before .before .before .before .before .before .pre) .1)))
 
 same-length : tie.Need-same-length
@@ -181,7 +168,7 @@ same-length c = search needs
 returns : tie.Need-returns
 unfolding text-opens printLeaf parseError slashLeaf cellLeaf
 returns c =
-    let e = anywhere ((c .before .before .before .before .before .before .before .before .before .before .before .before .before .before .before .args) .place) (printLeaf ((c .before .before .before .before .before .before .before .before .before .before .before .before .before .before .before .args) .s .now) ((c .before .before .before .before .before .before .before .before .before .before .before .before .before .before .before .args) .l)) ((c .before .before .before .before .before .before .before .before .before .before .before .l) .given .1) refl refl in
+    let e = anywhere ((c .before .before .before .before .before .before .before .before .before .before .before .before .before .before .before .args) .dialect) ((c .before .before .before .before .before .before .before .before .before .before .before .before .before .before .before .args) .place) (printLeaf ((c .before .before .before .before .before .before .before .before .before .before .before .before .before .before .before .args) .dialect) ((c .before .before .before .before .before .before .before .before .before .before .before .before .before .before .before .args) .s .now) ((c .before .before .before .before .before .before .before .before .before .before .before .before .before .before .before .args) .l)) ((c .before .before .before .before .before .before .before .before .before .before .before .l) .given .1) refl refl in
     puts-as e (rw ((c .before .before .before .before .before .before .before .before .before .before .before .l) .given .1) ((c .before .before .put-part-in) .ensures))
 
 same-length-2 : tie.Need-same-length-2
@@ -206,7 +193,7 @@ same-length-4 c = search needs
 returns-4 : tie.Need-returns-4
 unfolding text-opens printLeaf parseError slashLeaf cellLeaf
 returns-4 c =
-    let e = anywhere ((c .before .before .before .before .before .before .before .before .before .before .before .before .before .before .before .args) .place) (printLeaf ((c .before .before .before .before .before .before .before .before .before .before .before .before .before .before .before .args) .s .now) ((c .before .before .before .before .before .before .before .before .before .before .before .before .before .before .before .args) .l)) ((c .before .before .before .before .before .before .before .before .before .before .before .l4) .given .1) refl refl in
+    let e = anywhere ((c .before .before .before .before .before .before .before .before .before .before .before .before .before .before .before .args) .dialect) ((c .before .before .before .before .before .before .before .before .before .before .before .before .before .before .before .args) .place) (printLeaf ((c .before .before .before .before .before .before .before .before .before .before .before .before .before .before .before .args) .dialect) ((c .before .before .before .before .before .before .before .before .before .before .before .before .before .before .before .args) .s .now) ((c .before .before .before .before .before .before .before .before .before .before .before .before .before .before .before .args) .l)) ((c .before .before .before .before .before .before .before .before .before .before .before .l4) .given .1) refl refl in
     puts-as e (rw ((c .before .before .before .before .before .before .before .before .before .before .before .l4) .given .1) ((c .before .before .put-text-in) .ensures))
 
 same-length-5 : tie.Need-same-length-5
@@ -215,7 +202,7 @@ same-length-5 c = search needs
 returns-5 : tie.Need-returns-5
 unfolding text-opens printLeaf parseError slashLeaf cellLeaf
 returns-5 c =
-    let e = anywhere ((c .before .before .before .before .before .before .before .before .before .before .before .before .before .before .before .args) .place) (printLeaf ((c .before .before .before .before .before .before .before .before .before .before .before .before .before .before .before .args) .s .now) ((c .before .before .before .before .before .before .before .before .before .before .before .before .before .before .before .args) .l)) ((c .before .before .before .before .before .before .before .before .before .before .before .l5) .given .1) refl refl in
+    let e = anywhere ((c .before .before .before .before .before .before .before .before .before .before .before .before .before .before .before .args) .dialect) ((c .before .before .before .before .before .before .before .before .before .before .before .before .before .before .before .args) .place) (printLeaf ((c .before .before .before .before .before .before .before .before .before .before .before .before .before .before .before .args) .dialect) ((c .before .before .before .before .before .before .before .before .before .before .before .before .before .before .before .args) .s .now) ((c .before .before .before .before .before .before .before .before .before .before .before .before .before .before .before .args) .l)) ((c .before .before .before .before .before .before .before .before .before .before .before .l5) .given .1) refl refl in
     puts-as e (rw ((c .before .before .before .before .before .before .before .before .before .before .before .l5) .given .1) ((c .before .before .put-letters-in) .ensures))
 
 same-length-6 : tie.Need-same-length-6
@@ -224,7 +211,7 @@ same-length-6 c = search needs
 returns-6 : tie.Need-returns-6
 unfolding text-opens printLeaf parseError slashLeaf cellLeaf
 returns-6 c =
-    let e = anywhere ((c .before .before .before .before .before .before .before .before .before .before .before .before .before .before .before .args) .place) (printLeaf ((c .before .before .before .before .before .before .before .before .before .before .before .before .before .before .before .args) .s .now) ((c .before .before .before .before .before .before .before .before .before .before .before .before .before .before .before .args) .l)) ((c .before .before .before .before .before .before .before .before .before .before .before .l6) .given .1) refl refl in
+    let e = anywhere ((c .before .before .before .before .before .before .before .before .before .before .before .before .before .before .before .args) .dialect) ((c .before .before .before .before .before .before .before .before .before .before .before .before .before .before .before .args) .place) (printLeaf ((c .before .before .before .before .before .before .before .before .before .before .before .before .before .before .before .args) .dialect) ((c .before .before .before .before .before .before .before .before .before .before .before .before .before .before .before .args) .s .now) ((c .before .before .before .before .before .before .before .before .before .before .before .before .before .before .before .args) .l)) ((c .before .before .before .before .before .before .before .before .before .before .before .l6) .given .1) refl refl in
     puts-as e (rw ((c .before .before .before .before .before .before .before .before .before .before .before .l6) .given .1) ((c .before .before .put-width-in) .ensures))
 
 same-length-7 : tie.Need-same-length-7
@@ -233,7 +220,7 @@ same-length-7 c = search needs
 returns-7 : tie.Need-returns-7
 unfolding text-opens printLeaf parseError slashLeaf cellLeaf
 returns-7 c =
-    let e = anywhere ((c .before .before .before .before .before .before .before .before .before .args) .place) (printLeaf ((c .before .before .before .before .before .before .before .before .before .args) .s .now) ((c .before .before .before .before .before .before .before .before .before .args) .l)) ((c .before .before .before .before .before .l7) .given .1) refl refl in
+    let e = anywhere ((c .before .before .before .before .before .before .before .before .before .args) .dialect) ((c .before .before .before .before .before .before .before .before .before .args) .place) (printLeaf ((c .before .before .before .before .before .before .before .before .before .args) .dialect) ((c .before .before .before .before .before .before .before .before .before .args) .s .now) ((c .before .before .before .before .before .before .before .before .before .args) .l)) ((c .before .before .before .before .before .l7) .given .1) refl refl in
     puts-as e (rw ((c .before .before .before .before .before .l7) .given .1) ((c .before .before .put-stretched) .ensures))
 
 same-length-8 : tie.Need-same-length-8
@@ -242,7 +229,7 @@ same-length-8 c = search needs
 returns-8 : tie.Need-returns-8
 unfolding text-opens printLeaf parseError slashLeaf cellLeaf
 returns-8 c =
-    let e = anywhere ((c .before .before .before .before .before .before .before .before .before .before .before .before .before .before .before .args) .place) (printLeaf ((c .before .before .before .before .before .before .before .before .before .before .before .before .before .before .before .args) .s .now) ((c .before .before .before .before .before .before .before .before .before .before .before .before .before .before .before .args) .l)) ((c .before .before .before .before .before .before .before .before .before .before .before .l8) .given .1) refl refl in
+    let e = anywhere ((c .before .before .before .before .before .before .before .before .before .before .before .before .before .before .before .args) .dialect) ((c .before .before .before .before .before .before .before .before .before .before .before .before .before .before .before .args) .place) (printLeaf ((c .before .before .before .before .before .before .before .before .before .before .before .before .before .before .before .args) .dialect) ((c .before .before .before .before .before .before .before .before .before .before .before .before .before .before .before .args) .s .now) ((c .before .before .before .before .before .before .before .before .before .before .before .before .before .before .before .args) .l)) ((c .before .before .before .before .before .before .before .before .before .before .before .l8) .given .1) refl refl in
     puts-as e (rw ((c .before .before .before .before .before .before .before .before .before .before .before .l8) .given .1) ((c .before .before .put-text-in2) .ensures))
 
 same-length-9 : tie.Need-same-length-9
@@ -251,7 +238,7 @@ same-length-9 c = search needs
 returns-9 : tie.Need-returns-9
 unfolding text-opens printLeaf parseError slashLeaf cellLeaf
 returns-9 c =
-    let e = anywhere ((c .before .before .before .before .before .before .before .before .before .args) .place) (printLeaf ((c .before .before .before .before .before .before .before .before .before .args) .s .now) ((c .before .before .before .before .before .before .before .before .before .args) .l)) ((c .before .before .before .before .before .l9) .given .1) refl refl in
+    let e = anywhere ((c .before .before .before .before .before .before .before .before .before .args) .dialect) ((c .before .before .before .before .before .before .before .before .before .args) .place) (printLeaf ((c .before .before .before .before .before .before .before .before .before .args) .dialect) ((c .before .before .before .before .before .before .before .before .before .args) .s .now) ((c .before .before .before .before .before .before .before .before .before .args) .l)) ((c .before .before .before .before .before .l9) .given .1) refl refl in
     puts-as e (rw ((c .before .before .before .before .before .l9) .given .1) ((c .before .before .put-sized-paren) .ensures))
 
 same-length-10 : tie.Need-same-length-10
@@ -260,7 +247,7 @@ same-length-10 c = search needs
 returns-10 : tie.Need-returns-10
 unfolding text-opens printLeaf parseError slashLeaf cellLeaf
 returns-10 c =
-    let e = anywhere ((c .before .before .before .before .before .before .before .before .before .before .before .before .before .before .before .args) .place) (printLeaf ((c .before .before .before .before .before .before .before .before .before .before .before .before .before .before .before .args) .s .now) ((c .before .before .before .before .before .before .before .before .before .before .before .before .before .before .before .args) .l)) ((c .before .before .before .before .before .before .before .before .before .before .before .l10) .given .1) refl refl in
+    let e = anywhere ((c .before .before .before .before .before .before .before .before .before .before .before .before .before .before .before .args) .dialect) ((c .before .before .before .before .before .before .before .before .before .before .before .before .before .before .before .args) .place) (printLeaf ((c .before .before .before .before .before .before .before .before .before .before .before .before .before .before .before .args) .dialect) ((c .before .before .before .before .before .before .before .before .before .before .before .before .before .before .before .args) .s .now) ((c .before .before .before .before .before .before .before .before .before .before .before .before .before .before .before .args) .l)) ((c .before .before .before .before .before .before .before .before .before .before .before .l10) .given .1) refl refl in
     puts-as e (rw ((c .before .before .before .before .before .before .before .before .before .before .before .l10) .given .1) ((c .before .before .put-letters-in2) .ensures))
 
 same-length-11 : tie.Need-same-length-11
@@ -285,7 +272,7 @@ same-length-13 c = search needs
 returns-13 : tie.Need-returns-13
 unfolding text-opens printLeaf parseError slashLeaf cellLeaf
 returns-13 c =
-    let e = anywhere ((c .before .before .before .before .before .before .before .before .before .args) .place) (printLeaf ((c .before .before .before .before .before .before .before .before .before .args) .s .now) ((c .before .before .before .before .before .before .before .before .before .args) .l)) ((c .before .before .before .before .before .l11) .given .1) refl refl in
+    let e = anywhere ((c .before .before .before .before .before .before .before .before .before .args) .dialect) ((c .before .before .before .before .before .before .before .before .before .args) .place) (printLeaf ((c .before .before .before .before .before .before .before .before .before .args) .dialect) ((c .before .before .before .before .before .before .before .before .before .args) .s .now) ((c .before .before .before .before .before .before .before .before .before .args) .l)) ((c .before .before .before .before .before .l11) .given .1) refl refl in
     puts-as e (rw ((c .before .before .before .before .before .l11) .given .1) ((c .before .before .put-undefined) .ensures))
 
 pub put-leaf-spec : {M : Type 1} → statement M

@@ -7,11 +7,6 @@ use borrow.Author.Needs.{needs}
 use native.Mathlib.Omega.{arith}
 use Rattle.markup.proofs.leaf.put_letter.Statement.{statement}
 use Rattle.markup.proofs.leaf.put_letter.Tie as tie
-use Rattle.markup.proofs.leaf.put_letter.Reads as reads
-use Rattle.markup.proofs.leaf.put_letter.Lts as lts
-use Rattle.markup.proofs.leaf.put_character_in.Reads as put-character-in-reads
-use Rattle.markup.proofs.leaf.put_variant_letter.Reads as put-variant-letter-reads
-use Rattle.attribute.proofs.is_italic.Reads as is-italic-reads
 
 is-italic-requires : tie.Need-is-italic-requires
 is-italic-requires c κs = search needs
@@ -25,7 +20,7 @@ slice-aggregate-put-character-in-2 c = search needs
 put-character-in-requires : tie.Need-put-character-in-requires
 unfolding text-opens
 put-character-in-requires c κs =
-    rw (italic-letter ((c .before .before .before .before .before .before .args) .c) ((c .before .before .before .before .before .before .args) .v) (sym ((c .before .before .before .before .is-italic) .ensures) ∙ (c .before .before .before .if1) .taken)) at ((c .before .before .before .before .before .before .pre))
+    rw (italic-letter ((c .before .before .before .before .before .before .args) .dialect) ((c .before .before .before .before .before .before .args) .c) ((c .before .before .before .before .before .before .args) .v) (sym ((c .before .before .before .before .is-italic) .ensures) ∙ (c .before .before .before .if1) .taken)) at ((c .before .before .before .before .before .before .pre))
 
 same-length : tie.Need-same-length
 same-length c = search needs
@@ -33,7 +28,7 @@ same-length c = search needs
 returns : tie.Need-returns
 unfolding text-opens
 returns c =
-    rw (italic-letter ((c .before .before .before .before .before .before .before .before .before .args) .c) ((c .before .before .before .before .before .before .before .before .before .args) .v) (sym ((c .before .before .before .before .before .before .before .is-italic) .ensures) ∙ (c .before .before .before .before .before .before .if1) .taken)) ((c .before .before .put-character-in) .ensures)
+    rw (italic-letter ((c .before .before .before .before .before .before .before .before .before .args) .dialect) ((c .before .before .before .before .before .before .before .before .before .args) .c) ((c .before .before .before .before .before .before .before .before .before .args) .v) (sym ((c .before .before .before .before .before .before .before .is-italic) .ensures) ∙ (c .before .before .before .before .before .before .if1) .taken)) ((c .before .before .put-character-in) .ensures)
 
 slice-aggregate-put-variant-letter : tie.Need-slice-aggregate-put-variant-letter
 slice-aggregate-put-variant-letter c = search needs
@@ -41,7 +36,7 @@ slice-aggregate-put-variant-letter c = search needs
 put-variant-letter-requires : tie.Need-put-variant-letter-requires
 unfolding text-opens
 put-variant-letter-requires c κs =
-    rw (other-letter ((c .before .before .before .before .before .args) .c) ((c .before .before .before .before .before .args) .v) (sym ((c .before .before .before .is-italic) .ensures) ∙ (c .before .before .if1) .left)) at ((c .before .before .before .before .before .pre))
+    rw (other-letter ((c .before .before .before .before .before .args) .dialect) ((c .before .before .before .before .before .args) .c) ((c .before .before .before .before .before .args) .v) (sym ((c .before .before .before .is-italic) .ensures) ∙ (c .before .before .if1) .left)) at ((c .before .before .before .before .before .pre))
 
 same-length-2 : tie.Need-same-length-2
 same-length-2 c = search needs
@@ -49,7 +44,7 @@ same-length-2 c = search needs
 returns-2 : tie.Need-returns-2
 unfolding text-opens
 returns-2 c =
-    rw (other-letter ((c .before .before .before .before .before .before .before .before .args) .c) ((c .before .before .before .before .before .before .before .before .args) .v) (sym ((c .before .before .before .before .before .before .is-italic) .ensures) ∙ (c .before .before .before .before .before .if1) .left)) ((c .before .before .put-variant-letter) .ensures)
+    rw (other-letter ((c .before .before .before .before .before .before .before .before .args) .dialect) ((c .before .before .before .before .before .before .before .before .args) .c) ((c .before .before .before .before .before .before .before .before .args) .v) (sym ((c .before .before .before .before .before .before .is-italic) .ensures) ∙ (c .before .before .before .before .before .if1) .left)) ((c .before .before .put-variant-letter) .ensures)
 
 pub put-letter-spec : {M : Type 1} → statement M
 put-letter-spec =

@@ -10,10 +10,6 @@ use borrow.Author.Needs.{needs}
 use native.Mathlib.Omega.{arith}
 use Rattle.markup.proofs.leaf.put_letter_at.Statement.{statement}
 use Rattle.markup.proofs.leaf.put_letter_at.Tie as tie
-use Rattle.markup.proofs.leaf.put_letter_at.Reads as reads
-use Rattle.markup.proofs.leaf.put_letter_at.Lts as lts
-use Rattle.markup.proofs.leaf.put_letter.Reads as put-letter-reads
-use Rattle.markup.proofs.leaf.put_variant_letter.Reads as put-variant-letter-reads
 
 enum-told : tie.Need-enum-told
 enum-told c = search needs
@@ -37,7 +33,7 @@ returns c =
 put-letter-requires : tie.Need-put-letter-requires
 unfolding text-opens cellLeaf
 put-letter-requires c κs =
-    room-as (no-slash ((c .before .before .before .args) .place) (Leaf.Letter ((c .before .before .before .args) .c) ((c .before .before .before .args) .v)) (letterMarkup ((c .before .before .before .args) .c) ((c .before .before .before .args) .v)) ((c .before .match) .keys2) refl) (c .before .before .before .pre)
+    room-as (no-slash ((c .before .before .before .args) .dialect) ((c .before .before .before .args) .place) (Leaf.Letter ((c .before .before .before .args) .c) ((c .before .before .before .args) .v)) (letterMarkup ((c .before .before .before .args) .dialect) ((c .before .before .before .args) .c) ((c .before .before .before .args) .v)) ((c .before .match) .keys2) refl) (c .before .before .before .pre)
 
 same-length-2 : tie.Need-same-length-2
 same-length-2 c = search needs
@@ -45,7 +41,7 @@ same-length-2 c = search needs
 returns-2 : tie.Need-returns-2
 unfolding text-opens cellLeaf
 returns-2 c =
-    puts-as (no-slash ((c .before .before .before .before .before .before .args) .place) (Leaf.Letter ((c .before .before .before .before .before .before .args) .c) ((c .before .before .before .before .before .before .args) .v)) (letterMarkup ((c .before .before .before .before .before .before .args) .c) ((c .before .before .before .before .before .before .args) .v)) ((c .before .before .before .before .match) .keys2) refl) ((c .before .before .put-letter) .ensures)
+    puts-as (no-slash ((c .before .before .before .before .before .before .args) .dialect) ((c .before .before .before .before .before .before .args) .place) (Leaf.Letter ((c .before .before .before .before .before .before .args) .c) ((c .before .before .before .before .before .before .args) .v)) (letterMarkup ((c .before .before .before .before .before .before .args) .dialect) ((c .before .before .before .before .before .before .args) .c) ((c .before .before .before .before .before .before .args) .v)) ((c .before .before .before .before .match) .keys2) refl) ((c .before .before .put-letter) .ensures)
 
 pub put-letter-at-spec : {M : Type 1} → statement M
 put-letter-at-spec =

@@ -6,14 +6,10 @@ use borrow.Author.Needs.{needs}
 use native.Mathlib.Omega.{arith}
 use Rattle.markup.proofs.leaf.put_letters_in.Statement.{statement}
 use Rattle.markup.proofs.leaf.put_letters_in.Tie as tie
-use Rattle.markup.proofs.leaf.put_letters_in.Reads as reads
-use Rattle.markup.proofs.leaf.put_letters_in.Lts as lts
-use Rattle.lexer.proofs.letters.put_letters.Reads as put-letters-reads
-use Rattle.text.proofs.put.put.Reads as put-reads
 
 put-requires : tie.Need-put-requires
 put-requires c κs =
-    room-1 ((c .before .before .before .before .before .args) .front .now) (letterText ((c .before .before .before .before .before .args) .s .now) ((c .before .before .before .before .before .args) .a) ((c .before .before .before .before .before .args) .e)) ((c .before .before .before .before .before .args) .back .now) ((c .before .before .before .before .before .pre) .2)
+    room-1 ((c .before .before .before .before .before .args) .front .now) (letterText ((c .before .before .before .before .before .args) .dialect) ((c .before .before .before .before .before .args) .s .now) ((c .before .before .before .before .before .args) .a) ((c .before .before .before .before .before .args) .e)) ((c .before .before .before .before .before .args) .back .now) ((c .before .before .before .before .before .pre) .2)
 
 sub-put-letters : tie.Need-sub-put-letters
 sub-put-letters c = search needs
@@ -27,12 +23,12 @@ part-put-letters-end c = search needs
 put-letters-requires : tie.Need-put-letters-requires
 unfolding letterText
 put-letters-requires c κs =
-    (room-2 ((c .before .before .before .before .before .before .before .before .before .before .args) .front .now) (letterText ((c .before .before .before .before .before .before .before .before .before .before .args) .s .now) ((c .before .before .before .before .before .before .before .before .before .before .args) .a) ((c .before .before .before .before .before .before .before .before .before .before .args) .e)) ((c .before .before .before .before .before .before .before .before .before .before .args) .back .now) ((c .before .before .before .before .before .before .before .before .before .before .pre) .2) ((c .before .before .before .before .put) .ensures), (c .before .before .before .before .before .before .before .before .before .before .pre) .3)
+    (room-2 ((c .before .before .before .before .before .before .before .before .before .before .args) .front .now) (letterText ((c .before .before .before .before .before .before .before .before .before .before .args) .dialect) ((c .before .before .before .before .before .before .before .before .before .before .args) .s .now) ((c .before .before .before .before .before .before .before .before .before .before .args) .a) ((c .before .before .before .before .before .before .before .before .before .before .args) .e)) ((c .before .before .before .before .before .before .before .before .before .before .args) .back .now) ((c .before .before .before .before .before .before .before .before .before .before .pre) .2) ((c .before .before .before .before .put) .ensures), (c .before .before .before .before .before .before .before .before .before .before .pre) .3)
 
 put-requires-2 : tie.Need-put-requires-2
 unfolding letterText
 put-requires-2 c κs =
-    room-3 ((c .before .before .before .before .before .before .before .before .before .before .before .before .before .before .args) .front .now) (letterText ((c .before .before .before .before .before .before .before .before .before .before .before .before .before .before .args) .s .now) ((c .before .before .before .before .before .before .before .before .before .before .before .before .before .before .args) .a) ((c .before .before .before .before .before .before .before .before .before .before .before .before .before .before .args) .e)) ((c .before .before .before .before .before .before .before .before .before .before .before .before .before .before .args) .back .now) ((c .before .before .before .before .before .before .before .before .before .before .before .before .before .before .pre) .2) ((c .before .before .before .before .before .before .before .before .put) .ensures) ((c .before .before .before .put-letters) .ensures)
+    room-3 ((c .before .before .before .before .before .before .before .before .before .before .before .before .before .before .args) .front .now) (letterText ((c .before .before .before .before .before .before .before .before .before .before .before .before .before .before .args) .dialect) ((c .before .before .before .before .before .before .before .before .before .before .before .before .before .before .args) .s .now) ((c .before .before .before .before .before .before .before .before .before .before .before .before .before .before .args) .a) ((c .before .before .before .before .before .before .before .before .before .before .before .before .before .before .args) .e)) ((c .before .before .before .before .before .before .before .before .before .before .before .before .before .before .args) .back .now) ((c .before .before .before .before .before .before .before .before .before .before .before .before .before .before .pre) .2) ((c .before .before .before .before .before .before .before .before .put) .ensures) ((c .before .before .before .put-letters) .ensures)
 
 same-length : tie.Need-same-length
 same-length c = search needs
@@ -40,7 +36,7 @@ same-length c = search needs
 returns : tie.Need-returns
 unfolding letterText
 returns c =
-    puts-3 ((c .before .before .before .before .before .before .before .before .before .before .before .before .before .before .before .before .before .args) .front .now) (letterText ((c .before .before .before .before .before .before .before .before .before .before .before .before .before .before .before .before .before .args) .s .now) ((c .before .before .before .before .before .before .before .before .before .before .before .before .before .before .before .before .before .args) .a) ((c .before .before .before .before .before .before .before .before .before .before .before .before .before .before .before .before .before .args) .e)) ((c .before .before .before .before .before .before .before .before .before .before .before .before .before .before .before .before .before .args) .back .now) ((c .before .before .before .before .before .before .before .before .before .before .before .before .before .before .before .before .before .pre) .2) ((c .before .before .before .before .before .before .before .before .before .before .before .put) .ensures) ((c .before .before .before .before .before .before .put-letters) .ensures) ((c .before .before .put2) .ensures)
+    puts-3 ((c .before .before .before .before .before .before .before .before .before .before .before .before .before .before .before .before .before .args) .front .now) (letterText ((c .before .before .before .before .before .before .before .before .before .before .before .before .before .before .before .before .before .args) .dialect) ((c .before .before .before .before .before .before .before .before .before .before .before .before .before .before .before .before .before .args) .s .now) ((c .before .before .before .before .before .before .before .before .before .before .before .before .before .before .before .before .before .args) .a) ((c .before .before .before .before .before .before .before .before .before .before .before .before .before .before .before .before .before .args) .e)) ((c .before .before .before .before .before .before .before .before .before .before .before .before .before .before .before .before .before .args) .back .now) ((c .before .before .before .before .before .before .before .before .before .before .before .before .before .before .before .before .before .pre) .2) ((c .before .before .before .before .before .before .before .before .before .before .before .put) .ensures) ((c .before .before .before .before .before .before .put-letters) .ensures) ((c .before .before .put2) .ensures)
 
 pub put-letters-in-spec : {M : Type 1} → statement M
 put-letters-in-spec =

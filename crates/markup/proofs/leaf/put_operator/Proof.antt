@@ -7,10 +7,6 @@ use borrow.Author.Needs.{needs}
 use native.Mathlib.Omega.{arith}
 use Rattle.markup.proofs.leaf.put_operator.Statement.{statement}
 use Rattle.markup.proofs.leaf.put_operator.Tie as tie
-use Rattle.markup.proofs.leaf.put_operator.Reads as reads
-use Rattle.markup.proofs.leaf.put_operator.Lts as lts
-use Rattle.markup.proofs.leaf.put_character_in.Reads as put-character-in-reads
-use Rattle.text.proofs.put.put.Reads as put-reads
 
 slice-aggregate-put : tie.Need-slice-aggregate-put
 slice-aggregate-put c = search needs
@@ -28,16 +24,16 @@ unfolding text-opens operatorMarkup
 returns c =
     rw ((c .before .before .before .before .before .if1) .taken) ((c .before .before .put) .ensures)
 
-slice-aggregate-put-character-in : tie.Need-slice-aggregate-put-character-in
-slice-aggregate-put-character-in c = search needs
+slice-aggregate-put-operator-in : tie.Need-slice-aggregate-put-operator-in
+slice-aggregate-put-operator-in c = search needs
 
-slice-aggregate-put-character-in-2 : tie.Need-slice-aggregate-put-character-in-2
-slice-aggregate-put-character-in-2 c = search needs
+slice-aggregate-put-operator-in-2 : tie.Need-slice-aggregate-put-operator-in-2
+slice-aggregate-put-operator-in-2 c = search needs
 
-put-character-in-requires : tie.Need-put-character-in-requires
+put-operator-in-requires : tie.Need-put-operator-in-requires
 unfolding text-opens
-put-character-in-requires c κs =
-    rw (other-operator ((c .before .before .before .before .before .args) .c) ((c .before .before .before .if1) .left)) at ((c .before .before .before .before .before .pre))
+put-operator-in-requires c κs =
+    rw (other-operator ((c .before .before .before .before .before .args) .dialect) ((c .before .before .before .before .before .args) .c) ((c .before .before .before .if1) .left)) at ((c .before .before .before .before .before .pre))
 
 same-length-2 : tie.Need-same-length-2
 same-length-2 c = search needs
@@ -45,7 +41,7 @@ same-length-2 c = search needs
 returns-2 : tie.Need-returns-2
 unfolding text-opens
 returns-2 c =
-    rw (other-operator ((c .before .before .before .before .before .before .before .before .args) .c) ((c .before .before .before .before .before .before .if1) .left)) ((c .before .before .put-character-in) .ensures)
+    rw (other-operator ((c .before .before .before .before .before .before .before .before .args) .dialect) ((c .before .before .before .before .before .before .before .before .args) .c) ((c .before .before .before .before .before .before .if1) .left)) ((c .before .before .put-operator-in) .ensures)
 
 pub put-operator-spec : {M : Type 1} → statement M
 put-operator-spec =
@@ -55,8 +51,8 @@ put-operator-spec =
     put-requires
     same-length
     returns
-    slice-aggregate-put-character-in
-    slice-aggregate-put-character-in-2
-    put-character-in-requires
+    slice-aggregate-put-operator-in
+    slice-aggregate-put-operator-in-2
+    put-operator-in-requires
     same-length-2
     returns-2)

@@ -6,23 +6,19 @@ use borrow.Author.Needs.{needs}
 use native.Mathlib.Omega.{arith}
 use Rattle.markup.proofs.leaf.put_stretched.Statement.{statement}
 use Rattle.markup.proofs.leaf.put_stretched.Tie as tie
-use Rattle.markup.proofs.leaf.put_stretched.Reads as reads
-use Rattle.markup.proofs.leaf.put_stretched.Lts as lts
-use Rattle.markup.proofs.leaf.put_character_in.Reads as put-character-in-reads
-use Rattle.markup.proofs.leaf.put_text_in.Reads as put-text-in-reads
 
 enum-known-o : tie.Need-enum-known-o
 enum-known-o c = search needs
 
-slice-aggregate-put-character-in : tie.Need-slice-aggregate-put-character-in
-slice-aggregate-put-character-in c = search needs
+slice-aggregate-put-operator-in : tie.Need-slice-aggregate-put-operator-in
+slice-aggregate-put-operator-in c = search needs
 
-slice-aggregate-put-character-in-2 : tie.Need-slice-aggregate-put-character-in-2
-slice-aggregate-put-character-in-2 c = search needs
+slice-aggregate-put-operator-in-2 : tie.Need-slice-aggregate-put-operator-in-2
+slice-aggregate-put-operator-in-2 c = search needs
 
-put-character-in-requires : tie.Need-put-character-in-requires
+put-operator-in-requires : tie.Need-put-operator-in-requires
 unfolding text-opens stretchedText
-put-character-in-requires c κs =
+put-operator-in-requires c κs =
     rw ((c .before .before .before .before .o) .given .1) at ((c .before .before .before .before .before .before .before .pre))
 
 enum-known-o-2 : tie.Need-enum-known-o-2
@@ -45,7 +41,7 @@ same-length c = search needs
 returns : tie.Need-returns
 unfolding text-opens stretchedText
 returns c =
-    rw ((c .before .before .before .before .before .before .before .o) .given .1) ((c .before .before .put-character-in) .ensures)
+    rw ((c .before .before .before .before .before .before .before .o) .given .1) ((c .before .before .put-operator-in) .ensures)
 
 same-length-2 : tie.Need-same-length-2
 same-length-2 c = search needs
@@ -60,9 +56,9 @@ put-stretched-spec =
     tie.close
     (tie.spec
     enum-known-o
-    slice-aggregate-put-character-in
-    slice-aggregate-put-character-in-2
-    put-character-in-requires
+    slice-aggregate-put-operator-in
+    slice-aggregate-put-operator-in-2
+    put-operator-in-requires
     enum-known-o-2
     slice-aggregate-put-text-in
     slice-aggregate-put-text-in-2

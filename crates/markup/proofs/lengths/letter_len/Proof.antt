@@ -1,74 +1,78 @@
 -- `markup::lengths::letter_len` meets its contract.
 -- Assumes nothing.
 use mathlib.Core.Path.{sym, _∙_}
-use Rattle.markup.proofs.ShortLaws.{encode-short, variant-short}
+use Rattle.markup.proofs.ShortLaws.{character-short, variant-short}
 use Rattle.markup.proofs.LengthLaws.{letter-under, letter-italic, letter-other}
+use Rattle.markup.specs.Print.{character}
 use borrow.Author.Needs.{needs}
 use native.Mathlib.Omega.{arith}
 use Rattle.markup.proofs.lengths.letter_len.Statement.{statement}
 use Rattle.markup.proofs.lengths.letter_len.Tie as tie
-use Rattle.markup.proofs.lengths.letter_len.Reads as reads
-use Rattle.markup.proofs.lengths.letter_len.Lts as lts
-use Rattle.attribute.proofs.is_italic.Reads as is-italic-reads
-use Rattle.markup.proofs.lengths.variant_len.Reads as variant-len-reads
-use Rattle.text.proofs.put.code_point_len.Reads as code-point-len-reads
 
 variant-len-requires : tie.Need-variant-len-requires
 variant-len-requires c κs = search needs
 
 add-result : tie.Need-add-result
+unfolding character
 add-result c =
     let e = (c .variant-len) .ensures in
     omega (arith, variant-short ((c .before .before .args) .v))
 
-code-point-len-requires : tie.Need-code-point-len-requires
-code-point-len-requires c κs = search needs
+character-len-requires : tie.Need-character-len-requires
+character-len-requires c κs = search needs
 
 add-result-2 : tie.Need-add-result-2
+unfolding character
 add-result-2 c =
     let e = (c .before .variant-len) .ensures in
-    let f = (c .code-point-len) .ensures in
-    omega (arith, variant-short ((c .before .before .before .args) .v), encode-short ((c .before .before .before .args) .c))
+    let f = (c .character-len) .ensures in
+    omega (arith, variant-short ((c .before .before .before .args) .v), character-short ((c .before .before .before .args) .dialect) ((c .before .before .before .args) .c))
 
 returns : tie.Need-returns
+unfolding character
 returns c =
-    rw ((c .before .before .if1) .taken, (c .before .variant-len) .ensures, (c .code-point-len) .ensures) (sym (letter-under ((c .before .before .before .args) .c) ((c .before .before .before .args) .v)))
+    rw ((c .before .before .if1) .taken, (c .before .variant-len) .ensures, (c .character-len) .ensures) (sym (letter-under ((c .before .before .before .args) .dialect) ((c .before .before .before .args) .c) ((c .before .before .before .args) .v)))
 
 is-italic-requires : tie.Need-is-italic-requires
 is-italic-requires c κs = search needs
 
-code-point-len-requires-2 : tie.Need-code-point-len-requires-2
-code-point-len-requires-2 c κs = search needs
+character-len-requires-2 : tie.Need-character-len-requires-2
+character-len-requires-2 c κs = search needs
 
 add-result-3 : tie.Need-add-result-3
+unfolding character
 add-result-3 c =
-    let f = (c .code-point-len2) .ensures in
-    omega (arith, encode-short ((c .before .before .before .before .args) .c))
+    let f = (c .character-len2) .ensures in
+    omega (arith, character-short ((c .before .before .before .before .args) .dialect) ((c .before .before .before .before .args) .c))
 
 returns-2 : tie.Need-returns-2
+unfolding character
 returns-2 c =
-    rw ((c .before .before .before .if1) .left, (c .code-point-len2) .ensures) (sym (letter-italic ((c .before .before .before .before .args) .c) ((c .before .before .before .before .args) .v) (sym ((c .before .before .is-italic) .ensures) ∙ (c .before .if2) .taken)))
+    rw ((c .before .before .before .if1) .left, (c .character-len2) .ensures) (sym (letter-italic ((c .before .before .before .before .args) .dialect) ((c .before .before .before .before .args) .c) ((c .before .before .before .before .args) .v) (sym ((c .before .before .is-italic) .ensures) ∙ (c .before .if2) .taken)))
 
 variant-len-requires-2 : tie.Need-variant-len-requires-2
 variant-len-requires-2 c κs = search needs
 
 add-result-4 : tie.Need-add-result-4
+unfolding character
 add-result-4 c =
     let e = (c .variant-len2) .ensures in
     omega (arith, variant-short ((c .before .before .before .before .args) .v))
 
-code-point-len-requires-3 : tie.Need-code-point-len-requires-3
-code-point-len-requires-3 c κs = search needs
+character-len-requires-3 : tie.Need-character-len-requires-3
+character-len-requires-3 c κs = search needs
 
 add-result-5 : tie.Need-add-result-5
+unfolding character
 add-result-5 c =
     let e = (c .before .variant-len2) .ensures in
-    let f = (c .code-point-len3) .ensures in
-    omega (arith, variant-short ((c .before .before .before .before .before .args) .v), encode-short ((c .before .before .before .before .before .args) .c))
+    let f = (c .character-len3) .ensures in
+    omega (arith, variant-short ((c .before .before .before .before .before .args) .v), character-short ((c .before .before .before .before .before .args) .dialect) ((c .before .before .before .before .before .args) .c))
 
 returns-3 : tie.Need-returns-3
+unfolding character
 returns-3 c =
-    rw ((c .before .before .before .before .if1) .left, (c .before .variant-len2) .ensures, (c .code-point-len3) .ensures) (sym (letter-other ((c .before .before .before .before .before .args) .c) ((c .before .before .before .before .before .args) .v) (sym ((c .before .before .before .is-italic) .ensures) ∙ (c .before .before .if2) .left)))
+    rw ((c .before .before .before .before .if1) .left, (c .before .variant-len2) .ensures, (c .character-len3) .ensures) (sym (letter-other ((c .before .before .before .before .before .args) .dialect) ((c .before .before .before .before .before .args) .c) ((c .before .before .before .before .before .args) .v) (sym ((c .before .before .before .is-italic) .ensures) ∙ (c .before .before .if2) .left)))
 
 pub letter-len-spec : {M : Type 1} → statement M
 letter-len-spec =
@@ -76,15 +80,15 @@ letter-len-spec =
     (tie.spec
     variant-len-requires
     add-result
-    code-point-len-requires
+    character-len-requires
     add-result-2
     returns
     is-italic-requires
-    code-point-len-requires-2
+    character-len-requires-2
     add-result-3
     returns-2
     variant-len-requires-2
     add-result-4
-    code-point-len-requires-3
+    character-len-requires-3
     add-result-5
     returns-3)

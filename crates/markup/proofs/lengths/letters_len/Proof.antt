@@ -9,9 +9,6 @@ use borrow.Author.Needs.{needs}
 use native.Mathlib.Omega.{arith}
 use Rattle.markup.proofs.lengths.letters_len.Statement.{statement}
 use Rattle.markup.proofs.lengths.letters_len.Tie as tie
-use Rattle.markup.proofs.lengths.letters_len.Reads as reads
-use Rattle.markup.proofs.lengths.letters_len.Lts as lts
-use Rattle.lexer.proofs.letters.put_letters.Reads as put-letters-reads
 
 sub-put-letters : tie.Need-sub-put-letters
 sub-put-letters c = search needs
@@ -28,12 +25,12 @@ slice-aggregate-put-letters c = search needs
 put-letters-requires : tie.Need-put-letters-requires
 unfolding letterText
 put-letters-requires c κs =
-    (letters-room ((c .before .before .before .args) .s .now) ((c .before .before .before .args) .a) ((c .before .before .before .args) .e) ((c .before .before .before .pre) .2), (c .before .before .before .pre) .3)
+    (letters-room ((c .before .before .before .args) .dialect) ((c .before .before .before .args) .s .now) ((c .before .before .before .args) .a) ((c .before .before .before .args) .e) ((c .before .before .before .pre) .2), (c .before .before .before .pre) .3)
 
 returns : tie.Need-returns
 unfolding letterText
 returns c =
-    (c .before .put-letters) .ensures .place ∙ zero-add (length (letterText ((c .before .before .before .before .before .args) .s .now) ((c .before .before .before .before .before .args) .a) ((c .before .before .before .before .before .args) .e)))
+    (c .before .put-letters) .ensures .place ∙ zero-add (length (letterText ((c .before .before .before .before .before .args) .dialect) ((c .before .before .before .before .before .args) .s .now) ((c .before .before .before .before .before .args) .a) ((c .before .before .before .before .before .args) .e)))
 
 pub letters-len-spec : {M : Type 1} → statement M
 letters-len-spec =

@@ -18,15 +18,15 @@ use Rattle.page.proofs.draft.draft_paragraph.Reads as draft-paragraph-r
 use Rattle.page.proofs.draft.wide.Reads as wide-reads
 
 abbrev Inv-loop : tie.InvT-loop
-Inv-loop document store₀ work₀ draft₀ left₀ table from₀ at₀ k₀ refused₀ store work draft left from at k refused =
-    (length store ≡ length store₀) × (length work ≡ length work₀) × (length draft ≡ length draft₀) × (length left ≡ length left₀) × Drafting document (length store₀) (length work₀) from at k refused draft left
+Inv-loop manner document store₀ work₀ draft₀ left₀ table from₀ at₀ k₀ refused₀ store work draft left from at k refused =
+    (length store ≡ length store₀) × (length work ≡ length work₀) × (length draft ≡ length draft₀) × (length left ≡ length left₀) × Drafting manner document (length store₀) (length work₀) from at k refused draft left
 
 abbrev μ-loop : tie.MeasureT-loop
-μ-loop document store₀ work₀ draft₀ left₀ table from₀ at₀ k₀ refused₀ store work draft left from at k refused =
+μ-loop manner document store₀ work₀ draft₀ left₀ table from₀ at₀ k₀ refused₀ store work draft left from at k refused =
     length document - from
 
 loop-holds : tie.Need-loop-holds Inv-loop μ-loop
-loop-holds c = (refl, refl, refl, refl, drafting-none _ _ _ _ _)
+loop-holds c = (refl, refl, refl, refl, drafting-none _ _ _ _ _ _)
 
 next-break-requires : tie.Need-next-break-requires Inv-loop μ-loop
 next-break-requires c κs = search needs
@@ -47,7 +47,7 @@ draft-paragraph-requires c κs =
     let few = (c .before .before .before .before .before .before .before .before .before .before .before .before .pre) .0 in
     let most = h .most in
     let size = part-length ((c .before .before .before .before .before .before .before .before .before .before .before .before .args) .document .now) ((c .before .before .before .before .before .before .loop) .from) ((c .before .before .before .before .before .next-break) .result) (b .1) (b .2) in
-    (omega (arith, h .few, h .inside, (c .before .before .before .before .before .before .before .before .before .before .before .before .pre) .1, (c .before .before .before .before .before .before .loop) .inv .3), omega arith, c .before .before .before .before .before .before .before .before .before .before .before .before .pre .2)
+    (omega (arith, h .few, h .inside, (c .before .before .before .before .before .before .before .before .before .before .before .before .pre) .1, (c .before .before .before .before .before .before .loop) .inv .3), omega arith, (c .before .before .before .before .before .before .before .before .before .before .before .before .pre) .2)
 
 slice-read-wide : tie.Need-slice-read-wide Inv-loop μ-loop
 slice-read-wide c = search needs
@@ -80,7 +80,7 @@ returns c =
     let i = (c .before .before .before .before .before .before .before .before .before .before .before .before .before .before .before .before .before .before .loop) .inv in
     let b = (c .before .before .before .before .before .before .before .before .before .before .before .before .before .before .before .before .before .next-break) .ensures in
     let p = rw (i .0, i .1) at ((c .before .before .before .before .before .before .before .before .before .before .before .draft-paragraph) .ensures) in
-    rw ((c .before .wide) .ensures .0) (drafting-last (i .4) ((c .before .before .before .before .before .before .before .before .before .before .before .before .before .before .before .before .before .next-break) .result) ((c .before .before .before .before .before .before .before .before .before .before .before .draft-paragraph) .result) (b .0) (omega arith) p ((c .if1) .taken) ((c .before .before .before .before .before .before .before .before .before .before .before .draft-paragraph) .kept .1 .1 .1 .0))
+    rw ((c .before .wide) .ensures .0) (drafting-last (i .4) ((c .before .before .before .before .before .before .before .before .before .before .before .before .before .before .before .before .before .next-break) .result) ((c .before .before .before .before .before .before .before .before .before .before .before .draft-paragraph) .result) (b .0) (omega arith) p ((c .if1) .taken) ((c .before .before .before .before .before .before .before .before .before .before .before .draft-paragraph) .kept .1 .1 .1 .1 .0))
 
 break-end-requires : tie.Need-break-end-requires Inv-loop μ-loop
 break-end-requires c κs = search needs
@@ -121,7 +121,7 @@ loop-again c =
     let p = rw (i .0, i .1) at ((c .before .before .before .before .before .before .before .before .before .before .before .before .before .before .before .before .before .draft-paragraph) .ensures) in
     let few = (c .before .before .before .before .before .before .before .before .before .before .before .before .before .before .before .before .before .before .before .before .before .before .before .before .before .before .before .before .before .before .pre) .1 in
     let q = (c .before .before .before .before .before .before .before .before .before .before .before .before .before .before .before .before .before .draft-paragraph) .kept in
-    (q .1 .0 ∙ i .0, q .1 .1 .0 ∙ i .1, (c .before .before .lay) .kept .1 .0 ∙ q .1 .1 .1 .0 ∙ i .2, q .1 .1 .1 .1 .1 .0 ∙ i .3, rw ((c .before .before .before .before .before .before .before .wide) .ensures .0) (drafting-more (i .4) ((c .before .before .before .before .before .before .before .before .before .before .before .before .before .before .before .before .before .before .before .before .before .before .before .next-break) .result) ((c .before .before .before .before .before .before .before .before .before .before .before .before .before .before .before .before .before .draft-paragraph) .result) (b .0) (omega arith) p ((c .before .before .before .before .before .break-end) .result) (b .1) (omega arith) (d .0) (d .2) ((c .before .before .lay) .last .1 .0) ((c .before .before .lay) .result) ((c .before .before .lay) .ensures .0) ((c .before .before .lay) .ensures .1) (q .1 .1 .1 .0) ((c .before .before .lay) .kept .1 .0)))
+    (q .1 .1 .0 ∙ i .0, q .1 .1 .1 .0 ∙ i .1, (c .before .before .lay) .kept .1 .0 ∙ q .1 .1 .1 .1 .0 ∙ i .2, q .1 .1 .1 .1 .1 .1 .0 ∙ i .3, rw ((c .before .before .before .before .before .before .before .wide) .ensures .0) (drafting-more (i .4) ((c .before .before .before .before .before .before .before .before .before .before .before .before .before .before .before .before .before .before .before .before .before .before .before .next-break) .result) ((c .before .before .before .before .before .before .before .before .before .before .before .before .before .before .before .before .before .draft-paragraph) .result) (b .0) (omega arith) p ((c .before .before .before .before .before .break-end) .result) (b .1) (omega arith) (d .0) (d .2) ((c .before .before .lay) .last .1 .0) ((c .before .before .lay) .result) ((c .before .before .lay) .ensures .0) ((c .before .before .lay) .ensures .1) (q .1 .1 .1 .1 .0) ((c .before .before .lay) .kept .1 .0)))
 
 pub draft-page-spec : {M : Type 1} → statement M
 draft-page-spec =

@@ -42,7 +42,7 @@ returns : tie.Need-returns
 returns c =
     let a = (c .before .before .before .before .before .before .before .before .before .before .before .before .before .before .before .before .before .before .args) in
     let q = (c .before .before .before .before .before .before .before .before .before .lay-replacement) .ensures in
-    drafted-replaced (a .p .now) (length (a .store .now)) (length (a .work .now)) (a .draft .now) ((c .before .before .before .before .before .before .before .before .before .lay-replacement) .last .1 .1 .1 .0) (a .left .now) (a .at) (a .k) ((c .before .before .before .before .before .before .before .before .before .lay-replacement) .result) ((c .before .before .mark-of) .result) ((c .end-of) .result) ((c .before .before .mark-of) .ensures) ((c .before .if1) .taken) ((c .end-of) .ensures) (q .0) (q .1)
+    drafted-replaced (a .manner) (a .p .now) (length (a .store .now)) (length (a .work .now)) (a .draft .now) ((c .before .before .before .before .before .before .before .before .before .lay-replacement) .last .1 .1 .1 .1 .0) (a .left .now) (a .at) (a .k) ((c .before .before .before .before .before .before .before .before .before .lay-replacement) .result) ((c .before .before .mark-of) .result) ((c .end-of) .result) ((c .before .before .mark-of) .ensures) ((c .before .if1) .taken) ((c .end-of) .ensures) (q .0) (q .1)
 
 lay-requires : tie.Need-lay-requires
 lay-requires c κs =
@@ -64,7 +64,7 @@ same-length-8 c = search needs
 returns-2 : tie.Need-returns-2
 returns-2 c =
     let a = (c .before .before .before .before .before .before .before .before .before .before .before .before .before .before .before .before .before .before .before .before .before .args) in
-    drafted-typed (a .p .now) (length (a .store .now)) (length (a .work .now)) (a .draft .now) ((c .before .before .lay) .last .1 .0) (a .left .now) (a .at) (a .k) ((c .before .before .before .before .before .before .before .before .before .before .before .before .lay-replacement) .result) ((c .before .before .before .before .before .mark-of) .result) ((c .before .before .lay) .result) ((c .before .before .before .before .before .before .before .before .before .before .before .before .lay-replacement) .last .1 .1 .1 .0) ((c .before .before .before .before .before .mark-of) .ensures) ((c .before .before .before .before .if1) .left) ((c .before .before .before .before .before .before .before .before .before .before .before .before .lay-replacement) .ensures .0) ((c .before .before .before .before .before .before .before .before .before .before .before .before .lay-replacement) .kept .1 .1 .1 .0) ((c .before .before .lay) .ensures .0) ((c .before .before .lay) .ensures .1)
+    drafted-typed (a .manner) (a .p .now) (length (a .store .now)) (length (a .work .now)) (a .draft .now) ((c .before .before .lay) .last .1 .0) (a .left .now) (a .at) (a .k) ((c .before .before .before .before .before .before .before .before .before .before .before .before .lay-replacement) .result) ((c .before .before .before .before .before .mark-of) .result) ((c .before .before .lay) .result) ((c .before .before .before .before .before .before .before .before .before .before .before .before .lay-replacement) .last .1 .1 .1 .1 .0) ((c .before .before .before .before .before .mark-of) .ensures) ((c .before .before .before .before .if1) .left) ((c .before .before .before .before .before .before .before .before .before .before .before .before .lay-replacement) .ensures .0) ((c .before .before .before .before .before .before .before .before .before .before .before .before .lay-replacement) .kept .1 .1 .1 .1 .0) ((c .before .before .lay) .ensures .0) ((c .before .before .lay) .ensures .1)
 
 pub draft-paragraph-spec : {M : Type 1} → statement M
 draft-paragraph-spec =

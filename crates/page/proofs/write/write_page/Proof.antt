@@ -17,16 +17,16 @@ use Rattle.page.proofs.write.write_paragraph.Reads as write-paragraph-r
 use Rattle.text.proofs.put.put.Reads as put-reads
 
 abbrev Inv-loop : tie.InvT-loop
-Inv-loop document store₀ work₀ out₀ left table from₀ at₀ k₀ store work out from at k =
-    (length store ≡ length store₀) × (length work ≡ length work₀) × (length out ≡ length out₀) × Writing document left (length store₀) (length work₀) out₀ out from at k
+Inv-loop manner document store₀ work₀ out₀ left table from₀ at₀ k₀ store work out from at k =
+    (length store ≡ length store₀) × (length work ≡ length work₀) × (length out ≡ length out₀) × Writing manner document left (length store₀) (length work₀) out₀ out from at k
 
 abbrev μ-loop : tie.MeasureT-loop
-μ-loop document store₀ work₀ out₀ left table from₀ at₀ k₀ store work out from at k =
+μ-loop manner document store₀ work₀ out₀ left table from₀ at₀ k₀ store work out from at k =
     length document - from
 
 loop-holds : tie.Need-loop-holds Inv-loop μ-loop
 loop-holds c =
-    (refl, refl, refl, writing-none _ _ _ _ _ ((c .before .before .before .before .before .pre) .0))
+    (refl, refl, refl, writing-none _ _ _ _ _ _ ((c .before .before .before .before .before .pre) .0))
 
 next-break-requires : tie.Need-next-break-requires Inv-loop μ-loop
 next-break-requires c κs = search needs
@@ -50,7 +50,7 @@ write-paragraph-requires : tie.Need-write-paragraph-requires Inv-loop μ-loop
 write-paragraph-requires c κs =
     let i = (c .before .before .before .before .before .before .loop) .inv in
     let b = (c .before .before .before .before .before .next-break) .ensures in
-    rw (i .0, i .1) (writing-mark ((c .before .before .before .before .before .before .before .before .before .before .before .before .pre) .1) (i .3) ((c .before .before .before .before .before .next-break) .result) (b .0) (b .2) .1, writing-room ((c .before .before .before .before .before .before .before .before .before .before .before .before .pre) .1) (i .3) ((c .before .before .before .before .before .next-break) .result) (b .0) (b .2), c .before .before .before .before .before .before .before .before .before .before .before .before .pre .2)
+    rw (i .0, i .1) (writing-mark ((c .before .before .before .before .before .before .before .before .before .before .before .before .pre) .1) (i .3) ((c .before .before .before .before .before .next-break) .result) (b .0) (b .2) .1, writing-room ((c .before .before .before .before .before .before .before .before .before .before .before .before .pre) .1) (i .3) ((c .before .before .before .before .before .next-break) .result) (b .0) (b .2), (c .before .before .before .before .before .before .before .before .before .before .before .before .pre) .2)
 
 same-length : tie.Need-same-length Inv-loop μ-loop
 same-length c = search needs
@@ -93,7 +93,7 @@ add-k c =
     let i = (c .before .before .before .before .before .before .before .before .before .before .before .before .before .before .before .before .before .before .before .before .loop) .inv in
     let b = (c .before .before .before .before .before .before .before .before .before .before .before .before .before .before .before .before .before .before .before .next-break) .ensures in
     let mark = writing-mark ((c .before .before .before .before .before .before .before .before .before .before .before .before .before .before .before .before .before .before .before .before .before .before .before .before .before .before .pre) .1) (i .3) ((c .before .before .before .before .before .before .before .before .before .before .before .before .before .before .before .before .before .before .before .next-break) .result) (b .0) (b .2) in
-    omega (arith, (c .before .before .before .before .before .before .before .before .before .before .before .before .before .before .before .before .before .before .before .before .before .before .before .before .before .before .good) .1 .1 .1 .1 .0 .0)
+    omega (arith, (c .before .before .before .before .before .before .before .before .before .before .before .before .before .before .before .before .before .before .before .before .before .before .before .before .before .before .good) .1 .1 .1 .1 .1 .0 .0)
 
 loop-less : tie.Need-loop-less Inv-loop μ-loop
 loop-less c =
@@ -110,7 +110,7 @@ loop-again c =
     let d = (c .before .before .before .before .before .break-end) .ensures in
     let p = rw (i .0, i .1) at ((c .before .before .before .before .before .before .before .before .before .before .before .before .before .write-paragraph) .ensures) in
     let q = (c .before .before .before .before .before .before .before .before .before .before .before .before .before .write-paragraph) .kept in
-    (q .1 .0 ∙ i .0, q .1 .1 .0 ∙ i .1, (c .before .before .put) .kept .1 .0 ∙ q .1 .1 .1 .0 ∙ i .2, writing-more ((c .before .before .before .before .before .before .before .before .before .before .before .before .before .before .before .before .before .before .before .before .before .before .before .before .before .before .pre) .1) (i .3) ((c .before .before .before .before .before .before .before .before .before .before .before .before .before .before .before .before .before .before .before .next-break) .result) (b .0) (b .2) p ((c .before .before .before .before .before .break-end) .result) (omega arith) (d .0) (d .2) ((c .before .before .put) .ensures))
+    (q .1 .1 .0 ∙ i .0, q .1 .1 .1 .0 ∙ i .1, (c .before .before .put) .kept .1 .0 ∙ q .1 .1 .1 .1 .0 ∙ i .2, writing-more ((c .before .before .before .before .before .before .before .before .before .before .before .before .before .before .before .before .before .before .before .before .before .before .before .before .before .before .pre) .1) (i .3) ((c .before .before .before .before .before .before .before .before .before .before .before .before .before .before .before .before .before .before .before .next-break) .result) (b .0) (b .2) p ((c .before .before .before .before .before .break-end) .result) (omega arith) (d .0) (d .2) ((c .before .before .put) .ensures))
 
 pub write-page-spec : {M : Type 1} → statement M
 write-page-spec =

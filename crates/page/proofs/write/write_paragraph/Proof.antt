@@ -15,7 +15,7 @@ use Rattle.text.proofs.put.put.Reads as put-reads
 write-replacement-requires : tie.Need-write-replacement-requires
 write-replacement-requires c κs =
     let a = (c .before .before .before .before .before .before .before .before .args) in
-    (fits-replaced (a .p .now) (length (a .store .now)) (length (a .work .now)) (a .out .now) (a .at) (sym ((c .before .before .before .before .before .before .before .before .pre) .0) ∙ (c .before .before .before .if1) .taken) ((c .before .before .before .before .before .before .before .before .pre) .1), c .before .before .before .before .before .before .before .before .pre .2)
+    (fits-replaced (a .manner) (a .p .now) (length (a .store .now)) (length (a .work .now)) (a .out .now) (a .at) (sym ((c .before .before .before .before .before .before .before .before .pre) .0) ∙ (c .before .before .before .if1) .taken) ((c .before .before .before .before .before .before .before .before .pre) .1), (c .before .before .before .before .before .before .before .before .pre) .2)
 
 same-length : tie.Need-same-length
 same-length c = search needs
@@ -29,12 +29,12 @@ same-length-3 c = search needs
 returns : tie.Need-returns
 returns c =
     let a = (c .before .before .before .before .before .before .before .before .before .before .before .before .before .before .before .args) in
-    puts-replaced (a .p .now) (length (a .store .now)) (length (a .work .now)) (a .out .now) _ (a .at) ((c .before .before .before .before .before .before .write-replacement) .result) ((c .before .before .before .before .before .before .write-replacement) .ensures)
+    puts-replaced (a .manner) (a .p .now) (length (a .store .now)) (length (a .work .now)) (a .out .now) _ (a .at) ((c .before .before .before .before .before .before .write-replacement) .result) ((c .before .before .before .before .before .before .write-replacement) .ensures)
 
 put-requires : tie.Need-put-requires
 put-requires c κs =
     let a = (c .before .before .before .before .before .before .args) in
-    rw (shown-left (a .p .now) (length (a .store .now)) (length (a .work .now)) (λ e. (c .before .if1) .left ((c .before .before .before .before .before .before .pre) .0 ∙ e))) at ((c .before .before .before .before .before .before .pre) .1)
+    rw (shown-left (a .manner) (a .p .now) (length (a .store .now)) (length (a .work .now)) (λ e. (c .before .if1) .left ((c .before .before .before .before .before .before .pre) .0 ∙ e))) at ((c .before .before .before .before .before .before .pre) .1)
 
 same-length-4 : tie.Need-same-length-4
 same-length-4 c = search needs
@@ -42,7 +42,7 @@ same-length-4 c = search needs
 returns-2 : tie.Need-returns-2
 returns-2 c =
     let a = (c .before .before .before .before .before .before .before .before .before .args) in
-    rw (shown-left (a .p .now) (length (a .store .now)) (length (a .work .now)) (λ e. (c .before .before .before .before .if1) .left ((c .before .before .before .before .before .before .before .before .before .pre) .0 ∙ e))) ((c .before .before .put) .ensures)
+    rw (shown-left (a .manner) (a .p .now) (length (a .store .now)) (length (a .work .now)) (λ e. (c .before .before .before .before .if1) .left ((c .before .before .before .before .before .before .before .before .before .pre) .0 ∙ e))) ((c .before .before .put) .ensures)
 
 pub write-paragraph-spec : {M : Type 1} → statement M
 write-paragraph-spec =

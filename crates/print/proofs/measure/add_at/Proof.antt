@@ -43,16 +43,16 @@ own-len-requires : tie.Need-own-len-requires
 own-len-requires c κs =
     (step-inside ((c .before .before .before .before .before .before .before .before .pre) .0) ((c .before .before .before .before .before .before .before .before .pre) .1) ((c .before .before .before .before .before .before .before .before .pre) .2) ((c .before .before .before .before .before .fate-at) .ensures) (sym ((c .before .before .before .before .is-dropped) .ensures) ∙ (c .before .before .before .if1) .left) ((c .before .before .get-record) .ensures .0) ((c .before .fields-of) .ensures), (c .before .before .before .before .before .before .before .before .pre) .0 .short, (c .before .before .before .before .before .before .before .before .pre) .3)
 
-add-t15 : tie.Need-add-t15
-add-t15 c =
+add-t16 : tie.Need-add-t16
+add-t16 c =
     let z = step-small ((c .before .before .before .before .before .before .before .before .before .before .pre) .0) ((c .before .before .before .before .before .before .before .before .before .before .pre) .1) ((c .before .before .before .before .before .before .before .before .before .before .pre) .2) ((c .before .before .before .before .before .before .before .fate-at) .ensures) (sym ((c .before .before .before .before .before .before .is-dropped) .ensures) ∙ (c .before .before .before .before .before .if1) .left) ((c .before .before .before .before .get-record) .ensures .0) ((c .before .before .before .fields-of) .ensures) (rw ((c .before .before .is-slashed) .ensures) at ((c .before .own-len) .ensures)) in
     omega arith
 
 own-errors-requires : tie.Need-own-errors-requires
 own-errors-requires c κs = search needs
 
-add-t17 : tie.Need-add-t17
-add-t17 c =
+add-t18 : tie.Need-add-t18
+add-t18 c =
     let z = errors-small ((c .before .before .before .before .before .before .before .before .before .before .before .before .pre) .0) ((c .before .before .before .before .before .before .before .before .before .before .before .before .pre) .1) ((c .before .before .before .before .before .before .before .before .before .before .before .before .pre) .2) ((c .before .before .before .before .before .before .before .before .before .fate-at) .ensures) (sym ((c .before .before .before .before .before .before .before .before .is-dropped) .ensures) ∙ (c .before .before .before .before .before .before .before .if1) .left) ((c .before .before .before .before .before .before .get-record) .ensures .0) ((c .before .before .before .before .before .fields-of) .ensures) ((c .before .own-errors) .ensures) in
     omega arith
 
@@ -64,13 +64,13 @@ marks-requires : tie.Need-marks-requires
 marks-requires c κs =
     step-chain ((c .before .before .before .before .before .before .before .before .before .before .before .before .before .before .pre) .0) ((c .before .before .before .before .before .before .before .before .before .before .before .before .before .before .pre) .1) ((c .before .before .before .before .before .before .before .before .before .before .before .before .before .before .pre) .2) ((c .before .before .before .before .before .before .before .before .before .before .before .fate-at) .ensures) (sym ((c .before .before .before .before .before .before .before .before .before .before .is-dropped) .ensures) ∙ (c .before .before .before .before .before .before .before .before .before .if1) .left) ((c .before .before .before .before .before .before .before .before .get-record) .ensures .0) ((c .before .before .before .before .before .before .before .fields-of) .ensures) ((c .if2) .left)
 
-add-t13 : tie.Need-add-t13
-add-t13 c =
+add-t14 : tie.Need-add-t14
+add-t14 c =
     let z = ampersands-small ((c .before .before .before .before .before .before .before .before .before .before .before .before .before .before .before .before .before .pre) .0) ((c .before .before .before .before .before .before .before .before .before .before .before .before .before .before .before .before .before .pre) .1) ((c .before .before .before .before .before .before .before .before .before .before .before .before .before .before .before .before .before .pre) .2) ((c .before .before .before .before .before .before .before .before .before .before .before .before .before .before .fate-at) .ensures) (sym ((c .before .before .before .before .before .before .before .before .before .before .before .before .before .is-dropped) .ensures) ∙ (c .before .before .before .before .before .before .before .before .before .before .before .before .if1) .left) ((c .before .before .before .before .before .before .before .before .before .before .before .get-record) .ensures .0) ((c .before .before .before .before .before .before .before .before .before .before .fields-of) .ensures) ((c .before .before .before .if2) .left) ((c .before .before .marks) .ensures .0) in
     omega arith
 
-add-t17-2 : tie.Need-add-t17-2
-add-t17-2 c =
+add-t18-2 : tie.Need-add-t18-2
+add-t18-2 c =
     let z = lines-small ((c .before .before .before .before .before .before .before .before .before .before .before .before .before .before .before .before .before .before .before .pre) .0) ((c .before .before .before .before .before .before .before .before .before .before .before .before .before .before .before .before .before .before .before .pre) .1) ((c .before .before .before .before .before .before .before .before .before .before .before .before .before .before .before .before .before .before .before .pre) .2) ((c .before .before .before .before .before .before .before .before .before .before .before .before .before .before .before .before .fate-at) .ensures) (sym ((c .before .before .before .before .before .before .before .before .before .before .before .before .before .before .before .is-dropped) .ensures) ∙ (c .before .before .before .before .before .before .before .before .before .before .before .before .before .before .if1) .left) ((c .before .before .before .before .before .before .before .before .before .before .before .before .before .get-record) .ensures .0) ((c .before .before .before .before .before .before .before .before .before .before .before .before .fields-of) .ensures) ((c .before .before .before .before .before .if2) .left) ((c .before .before .before .before .marks) .ensures .1) in
     omega arith
 
@@ -89,11 +89,11 @@ add-at-spec =
     fields-of-requires
     is-slashed-requires
     own-len-requires
-    add-t15
+    add-t16
     own-errors-requires
-    add-t17
+    add-t18
     returns-2
     marks-requires
-    add-t13
-    add-t17-2
+    add-t14
+    add-t18-2
     returns-3)

@@ -13,14 +13,14 @@ use Rattle.print.proofs.measure.measure.Lts as lts
 use Rattle.print.proofs.measure.add_at.Reads as add-at-reads
 
 abbrev Inv-loop : tie.InvT-loop
-Inv-loop s store top table sums₀ k₀ sums k = Summed s store top k sums
+Inv-loop dialect s store top table sums₀ k₀ sums k = Summed dialect s store top k sums
 
 abbrev μ-loop : tie.MeasureT-loop
-μ-loop s store top table sums₀ k₀ sums k = top - k
+μ-loop dialect s store top table sums₀ k₀ sums k = top - k
 
 loop-holds : tie.Need-loop-holds Inv-loop μ-loop
 loop-holds c =
-    summed-none ((c .before .before .args) .s .now) ((c .before .before .args) .store .now) ((c .before .before .args) .top)
+    summed-none ((c .before .before .args) .dialect) ((c .before .before .args) .s .now) ((c .before .before .args) .store .now) ((c .before .before .args) .top)
 
 add-at-requires : tie.Need-add-at-requires Inv-loop μ-loop
 add-at-requires c κs =
@@ -93,24 +93,24 @@ add-less c =
     let z = all-small ((c .before .before .before .before .before .before .before .before .before .pre) .0) g in
     omega arith
 
-sub-t11 : tie.Need-sub-t11 Inv-loop μ-loop
-sub-t11 c =
+sub-t12 : tie.Need-sub-t12 Inv-loop μ-loop
+sub-t12 c =
     let i = (c .before .before .before .before .before .before .loop) .inv .in-store in
     let e : (c .before .before .before .before .before .before .loop) .k ≡ (c .before .before .before .before .before .before .before .before .before .args) .top = omega arith in
     let g = rw e at ((c .before .before .before .before .before .before .loop) .inv) in
     let l = all-length ((c .before .before .before .before .before .before .before .before .before .pre) .0) g in
     omega arith
 
-add-t12 : tie.Need-add-t12 Inv-loop μ-loop
-add-t12 c =
+add-t13 : tie.Need-add-t13 Inv-loop μ-loop
+add-t13 c =
     let i = (c .before .before .before .before .before .before .before .loop) .inv .in-store in
     let e : (c .before .before .before .before .before .before .before .loop) .k ≡ (c .before .before .before .before .before .before .before .before .before .before .args) .top = omega arith in
     let g = rw e at ((c .before .before .before .before .before .before .before .loop) .inv) in
     let z = all-small ((c .before .before .before .before .before .before .before .before .before .before .pre) .0) g in
     omega arith
 
-sub-t10 : tie.Need-sub-t10 Inv-loop μ-loop
-sub-t10 c =
+sub-t11 : tie.Need-sub-t11 Inv-loop μ-loop
+sub-t11 c =
     let i = (c .before .before .before .before .before .before .before .before .loop) .inv .in-store in
     let e : (c .before .before .before .before .before .before .before .before .loop) .k ≡ (c .before .before .before .before .before .before .before .before .before .before .before .args) .top = omega arith in
     let g = rw e at ((c .before .before .before .before .before .before .before .before .loop) .inv) in
@@ -142,7 +142,7 @@ measure-spec =
     mul-less
     mul-less-2
     add-less
+    sub-t12
+    add-t13
     sub-t11
-    add-t12
-    sub-t10
     returns)

@@ -1,8 +1,11 @@
--- `token::debug::put_command` meets its contract: three pieces, put one behind the other.
+-- `token::debug::put_command` meets its contract.
 -- Assumes nothing.
+use Rattle.text.specs.Text.{bytes}
+use Rattle.text.specs.Xml.{inText}
 use Rattle.text.specs.Examples.{text-opens}
-use Rattle.token.specs.Debug.{escapes, escapeBy, escape, control}
-use Rattle.token.proofs.DebugLaws.{front-room, name-room, back-room, command-put}
+use Rattle.text.proofs.PutLaws.{room-1, room-2, room-3, puts-3, room-as, puts-as}
+use Rattle.token.specs.Debug.{escapes, escapeBy, escape, control, commandName}
+use Rattle.token.proofs.DebugLaws.{command-pieces}
 use borrow.Author.Needs.{needs}
 use Rattle.token.proofs.debug.put_command.Statement.{statement}
 use Rattle.token.proofs.debug.put_command.Tie as tie
@@ -13,14 +16,17 @@ slice-aggregate-put c = search needs
 put-requires : tie.Need-put-requires
 unfolding text-opens escapes escapeBy escape control
 put-requires c κs =
-    let from = c .before .before .before .before in
-    front-room (from .args .s .now) (from .args .a) (from .args .e) (from .pre .2)
+    let p = (c .before .before .before .before .args) in
+    let name = inText (p .dialect) (escape (escape (commandName (p .s .now) (p .a) (p .e)))) in
+    room-1 (escape (bytes "Command(\"")) name (escape (bytes "\")")) (room-as (command-pieces (p .dialect) (p .s .now) (p .a) (p .e)) ((c .before .before .before .before .pre) .2))
 
 put-name-requires : tie.Need-put-name-requires
 unfolding text-opens escapes escapeBy escape control
 put-name-requires c κs =
-    let from = c .before .before .before .before .before .before .before .before in
-    (from .pre .0, from .pre .1, name-room (from .args .s .now) (from .args .a) (from .args .e) (from .pre .2) (c .before .before .before .put .ensures))
+    let p = (c .before .before .before .before .before .before .before .before .args) in
+    let name = inText (p .dialect) (escape (escape (commandName (p .s .now) (p .a) (p .e)))) in
+    let room = room-as (command-pieces (p .dialect) (p .s .now) (p .a) (p .e)) ((c .before .before .before .before .before .before .before .before .pre) .2) in
+    ((c .before .before .before .before .before .before .before .before .pre) .0, (c .before .before .before .before .before .before .before .before .pre) .1, room-2 (escape (bytes "Command(\"")) name (escape (bytes "\")")) room ((c .before .before .before .put) .ensures))
 
 slice-aggregate-put-2 : tie.Need-slice-aggregate-put-2
 slice-aggregate-put-2 c = search needs
@@ -28,9 +34,10 @@ slice-aggregate-put-2 c = search needs
 put-requires-2 : tie.Need-put-requires-2
 unfolding text-opens escapes escapeBy escape control
 put-requires-2 c κs =
-    let named = c .before .before .before .before in
-    let from = named .before .before .before .before .before .before .before .before .before in
-    back-room (from .args .s .now) (from .args .a) (from .args .e) (from .pre .2) (named .before .before .before .before .put .ensures) (named .put-name .ensures)
+    let p = (c .before .before .before .before .before .before .before .before .before .before .before .before .before .args) in
+    let name = inText (p .dialect) (escape (escape (commandName (p .s .now) (p .a) (p .e)))) in
+    let room = room-as (command-pieces (p .dialect) (p .s .now) (p .a) (p .e)) ((c .before .before .before .before .before .before .before .before .before .before .before .before .before .pre) .2) in
+    room-3 (escape (bytes "Command(\"")) name (escape (bytes "\")")) room ((c .before .before .before .before .before .before .before .before .put) .ensures) ((c .before .before .before .before .put-name) .ensures)
 
 same-length : tie.Need-same-length
 same-length c = search needs
@@ -38,10 +45,11 @@ same-length c = search needs
 returns : tie.Need-returns
 unfolding text-opens escapes escapeBy escape control
 returns c =
-    let ended = c .before .before in
-    let named = ended .before .before .before .before .before in
-    let from = named .before .before .before .before .before .before .before .before .before in
-    command-put (from .args .s .now) (from .args .a) (from .args .e) (from .pre .2) (named .before .before .before .before .put .ensures) (named .put-name .ensures) (ended .put2 .ensures)
+    let p = (c .before .before .before .before .before .before .before .before .before .before .before .before .before .before .before .before .args) in
+    let name = inText (p .dialect) (escape (escape (commandName (p .s .now) (p .a) (p .e)))) in
+    let pieces = command-pieces (p .dialect) (p .s .now) (p .a) (p .e) in
+    puts-as pieces
+    (puts-3 (escape (bytes "Command(\"")) name (escape (bytes "\")")) (room-as pieces ((c .before .before .before .before .before .before .before .before .before .before .before .before .before .before .before .before .pre) .2)) ((c .before .before .before .before .before .before .before .before .before .before .before .put) .ensures) ((c .before .before .before .before .before .before .before .put-name) .ensures) ((c .before .before .put2) .ensures))
 
 pub put-command-spec : {M : Type 1} → statement M
 put-command-spec =

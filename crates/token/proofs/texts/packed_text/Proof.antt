@@ -25,5 +25,5 @@ packed-text-spec =
     (λ c. rw (c .match .keys41)) (λ c. rw (c .match .keys42)) (λ c. rw (c .match .keys43)) (λ c. rw (c .match .keys44))
     (λ c. rw (c .match .keys45)) (λ c. rw (c .match .keys46)) (λ c. rw (c .match .keys47)) (λ c. rw (c .match .keys48))
     (λ c. rw (c .match .keys49)) (λ c. rw (c .match .keys50)) (λ c. rw (c .match .keys51)) (λ c. rw (c .match .keys52))
-    (λ c. rw (c .match .keys53)) (λ c. rw (c .match .keys54))
-    (λ c. rw (text-past (c .before .args .n) (past 54 (c .before .args .n) (c .match .rest)))))
+    (λ c. rw (c .match .keys53)) (λ c. rw (c .match .keys54)) (λ c. rw (c .match .keys55)) (λ c. rw (c .match .keys56))
+    (λ c. rw (text-past (c .before .args .n) (past 56 (c .before .args .n) (c .match .rest)))))

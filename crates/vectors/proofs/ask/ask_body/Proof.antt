@@ -12,6 +12,7 @@ use Rattle.latex2mathml.proofs.translate.latex_to_mathml.Reads as latex-to-math
 use Rattle.vectors.proofs.ask.display_of.Reads as display-of-reads
 use Rattle.vectors.proofs.ask.in_numbers.Reads as in-numbers-reads
 use Rattle.vectors.proofs.ask.least.Reads as least-reads
+use Rattle.vectors.proofs.ask.manner_of.Reads as manner-of-reads
 
 least-requires : tie.Need-least-requires
 least-requires c κs = search needs
@@ -22,17 +23,22 @@ least-requires-2 c κs = search needs
 display-of-requires : tie.Need-display-of-requires
 display-of-requires c κs = search needs
 
+manner-of-requires : tie.Need-manner-of-requires
+manner-of-requires c κs = search needs
+
 slice-relend-prefix-latex-to-mathml : tie.Need-slice-relend-prefix-latex-to-mathml
 slice-relend-prefix-latex-to-mathml c = search needs
 
 slice-aggregate-latex-to-mathml : tie.Need-slice-aggregate-latex-to-mathml
-slice-aggregate-latex-to-mathml c = sym (length-take-le _ _ (c .before .before .before .least .ensures .1))
+slice-aggregate-latex-to-mathml c =
+    sym (length-take-le _ _ ((c .before .before .before .before .least) .ensures .1))
 
 slice-relend-prefix-latex-to-mathml-2 : tie.Need-slice-relend-prefix-latex-to-mathml-2
 slice-relend-prefix-latex-to-mathml-2 c = search needs
 
 slice-aggregate-latex-to-mathml-2 : tie.Need-slice-aggregate-latex-to-mathml-2
-slice-aggregate-latex-to-mathml-2 c = sym (length-take-le _ _ (c .before .before .before .least2 .ensures .1))
+slice-aggregate-latex-to-mathml-2 c =
+    sym (length-take-le _ _ ((c .before .before .before .before .least2) .ensures .1))
 
 latex-to-mathml-requires : tie.Need-latex-to-mathml-requires
 latex-to-mathml-requires c κs = search needs
@@ -56,6 +62,7 @@ ask-body-spec =
     least-requires
     least-requires-2
     display-of-requires
+    manner-of-requires
     slice-relend-prefix-latex-to-mathml
     slice-aggregate-latex-to-mathml
     slice-relend-prefix-latex-to-mathml-2

@@ -10,6 +10,7 @@ use Rattle.vectors.proofs.ask.ask_page.Reads as reads
 use Rattle.vectors.proofs.ask.ask_page.Lts as lts
 use Rattle.page.proofs.page.Reads as page-reads
 use Rattle.vectors.proofs.ask.least.Reads as least-reads
+use Rattle.vectors.proofs.ask.manner_of.Reads as manner-of-reads
 use Rattle.vectors.proofs.ask.page_in_numbers.Reads as page-in-numbers-reads
 
 least-requires : tie.Need-least-requires
@@ -21,23 +22,29 @@ least-requires-2 c κs = search needs
 least-requires-3 : tie.Need-least-requires-3
 least-requires-3 c κs = search needs
 
+manner-of-requires : tie.Need-manner-of-requires
+manner-of-requires c κs = search needs
+
 slice-relend-prefix-page : tie.Need-slice-relend-prefix-page
 slice-relend-prefix-page c = search needs
 
 slice-aggregate-page : tie.Need-slice-aggregate-page
-slice-aggregate-page c = sym (length-take-le _ _ (c .before .before .before .least .ensures .1))
+slice-aggregate-page c =
+    sym (length-take-le _ _ ((c .before .before .before .before .least) .ensures .1))
 
 slice-relend-prefix-page-2 : tie.Need-slice-relend-prefix-page-2
 slice-relend-prefix-page-2 c = search needs
 
 slice-aggregate-page-2 : tie.Need-slice-aggregate-page-2
-slice-aggregate-page-2 c = sym (length-take-le _ _ (c .before .before .before .least2 .ensures .1))
+slice-aggregate-page-2 c =
+    sym (length-take-le _ _ ((c .before .before .before .before .least2) .ensures .1))
 
 slice-relend-prefix-page-3 : tie.Need-slice-relend-prefix-page-3
 slice-relend-prefix-page-3 c = search needs
 
 slice-aggregate-page-3 : tie.Need-slice-aggregate-page-3
-slice-aggregate-page-3 c = sym (length-take-le _ _ (c .before .before .before .least3 .ensures .1))
+slice-aggregate-page-3 c =
+    sym (length-take-le _ _ ((c .before .before .before .before .least3) .ensures .1))
 
 page-requires : tie.Need-page-requires
 page-requires c κs = search needs
@@ -64,6 +71,7 @@ ask-page-spec =
     least-requires
     least-requires-2
     least-requires-3
+    manner-of-requires
     slice-relend-prefix-page
     slice-aggregate-page
     slice-relend-prefix-page-2
