@@ -1,5 +1,6 @@
-//! Stored cases whose answer is the crate's, or the model's where document 02 decides a body, or 14 for a NUL; an input for which document 01 decides gives none.
+//! Stored cases whose answer is the crate's, or the model's where document 02 decides a body, as it does in the strict dialect, or 14 for a NUL; an input for which document 01 decides gives none.
 
+use crate::case::Manner;
 use crate::model;
 use crate::oracle::{self, Answer};
 use crate::stored::{Ask, Source, Stored, BLOCK, CLOSE, INLINE};
@@ -23,7 +24,11 @@ fn unwrapped(markup: &str, opening: &str) -> String {
 }
 
 /// A body's answer and where it comes from.
-fn translated(latex: &str, block: bool) -> (Answer, Source) {
+fn translated(manner: Manner, latex: &str, block: bool) -> (Answer, Source) {
+    if manner.strict {
+        let answer = model::read_apart(latex).strict_answer(latex, block);
+        return (answer, Source::Document02);
+    }
     let reading = model::read(latex);
     if reading.leaves {
         (reading.answer(block), Source::Document02)
@@ -35,8 +40,9 @@ fn translated(latex: &str, block: bool) -> (Answer, Source) {
 }
 
 /// A case that a NUL refuses.
-fn with_nul(ask: Ask, text: &str) -> Stored {
+fn with_nul(manner: Manner, ask: Ask, text: &str) -> Stored {
     Stored {
+        manner,
         number: 14,
         source: Source::Document02,
         ..Stored::new(ask, text)
@@ -44,13 +50,14 @@ fn with_nul(ask: Ask, text: &str) -> Stored {
 }
 
 /// A body in both displays.
-pub fn body(latex: &str) -> Option<Stored> {
+pub fn body(manner: Manner, latex: &str) -> Option<Stored> {
     if latex.contains('\0') {
-        return Some(with_nul(Ask::Both, latex));
+        return Some(with_nul(manner, Ask::Both, latex));
     }
     let mut case = Stored::new(Ask::Both, latex);
-    let (block, source) = translated(latex, true);
-    let (inline, _) = translated(latex, false);
+    case.manner = manner;
+    let (block, source) = translated(manner, latex, true);
+    let (inline, _) = translated(manner, latex, false);
     match (block, inline) {
         (Ok(block), Ok(inline)) => {
             let markup = unwrapped(&block, BLOCK);
@@ -68,11 +75,12 @@ pub fn body(latex: &str) -> Option<Stored> {
     decided(case, escapes(latex))
 }
 
-/// The case, unless document 01 decides it or it is too long for the list.
+/// The case, unless document 01 decides it in the old dialect or it is too long for the list.
 fn decided(case: Stored, escapes: bool) -> Option<Stored> {
     let panics = case.number == 9 && case.source == Source::Crate;
     let ours = panics || escapes || case.source == Source::Document01;
-    (!ours && case.output.len() <= LONGEST).then_some(case)
+    let decided = case.manner.strict || !ours;
+    (decided && case.output.len() <= LONGEST).then_some(case)
 }
 
 /// What becomes of a document.
@@ -85,7 +93,7 @@ pub struct Replaced {
 }
 
 /// The text after a pass whose marks are as many dollars wide.
-fn pass(text: &str, width: usize, source: &mut Source) -> Answer {
+fn pass(manner: Manner, text: &str, width: usize, source: &mut Source) -> Answer {
     let windows = text.as_bytes().windows(width).enumerate();
     let full = windows.filter(|(_, window)| window.iter().all(|&byte| byte == b'$'));
     let marks: Vec<usize> = full.map(|(at, _)| at).collect();
@@ -97,7 +105,8 @@ fn pass(text: &str, width: usize, source: &mut Source) -> Answer {
     }
     let (mut result, mut from) = (String::new(), 0);
     for pair in marks.chunks_exact(2) {
-        let (markup, made_by) = translated(&text[pair[0] + width..pair[1]], width == 2);
+        let body = &text[pair[0] + width..pair[1]];
+        let (markup, made_by) = translated(manner, body, width == 2);
         *source = made_by.max(*source);
         result.push_str(&text[from..pair[0]]);
         result.push_str(&markup?);
@@ -107,7 +116,7 @@ fn pass(text: &str, width: usize, source: &mut Source) -> Answer {
 }
 
 /// A document by the crate's own `replace` where it decides, and by two passes over its bodies where document 02 does.
-pub fn replaced(text: &str) -> Replaced {
+pub fn replaced(manner: Manner, text: &str) -> Replaced {
     if text.contains('\0') {
         return Replaced {
             answer: Err(14),
@@ -116,11 +125,11 @@ pub fn replaced(text: &str) -> Replaced {
         };
     }
     let mut source = Source::Crate;
-    let first = pass(text, 2, &mut source);
+    let first = pass(manner, text, 2, &mut source);
     let second = first
         .as_deref()
         .map_err(|&number| number)
-        .and_then(|first| pass(first, 1, &mut source));
+        .and_then(|first| pass(manner, first, 1, &mut source));
     if source == Source::Crate && !text.contains("$$$") {
         assert_eq!(second, oracle::replace(text), "the crate's own passes");
     }
@@ -131,20 +140,24 @@ pub fn replaced(text: &str) -> Replaced {
     }
 }
 
-pub fn document(text: &str) -> Option<Stored> {
+pub fn document(manner: Manner, text: &str) -> Option<Stored> {
     if text.contains('\0') {
-        return Some(with_nul(Ask::Document, text));
+        return Some(with_nul(manner, Ask::Document, text));
     }
     if text.contains("$$$") {
         return None;
     }
     let mut case = Stored::new(Ask::Document, text);
-    let replaced = replaced(text);
+    case.manner = manner;
+    let replaced = replaced(manner, text);
     match replaced.answer {
         Ok(output) => case.output = output.into_bytes(),
         Err(number) => case.number = number,
     }
     case.work = replaced.work.into_bytes();
     case.source = replaced.source;
+    if manner.strict {
+        case.source = Source::Document02;
+    }
     decided(case, escapes(text))
 }

@@ -4,6 +4,7 @@
 //! Arguments: the crate's sources, the number of rounds (60), and a part of the names of the rows to run (all).
 
 mod archive;
+#[allow(dead_code)]
 #[path = "../src/ffi.rs"]
 mod ffi;
 

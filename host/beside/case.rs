@@ -1,5 +1,28 @@
 //! A case: an operation, its input, and what is lent for it relative to what it needs.
 
+/// How an operation prints.
+#[derive(Clone, Copy, Debug, PartialEq, Eq, Hash)]
+pub struct Manner {
+    pub strict: bool,
+}
+
+impl Manner {
+    pub const OLD: Manner = Manner { strict: false };
+    pub const STRICT: Manner = Manner { strict: true };
+    pub const ALL: [Manner; 2] = [Manner::OLD, Manner::STRICT];
+}
+
+/// Which of the port's functions is asked.
+#[derive(Clone, Copy, Debug, PartialEq)]
+pub enum Way {
+    /// Document 01's, in the old dialect.
+    Plain,
+    /// The one that takes a manner.
+    In(Manner),
+    /// The strict translation of a body again.
+    Converter,
+}
+
 #[derive(Clone, Copy, Debug, PartialEq)]
 pub enum Operation {
     Body { block: bool },
@@ -47,6 +70,17 @@ impl Lent {
         work: usize::MAX,
         output: usize::MAX,
     };
+}
+
+impl Operation {
+    /// The functions that must give the answer of a manner.
+    pub fn ways(self, manner: Manner) -> &'static [Way] {
+        match self {
+            _ if manner == Manner::OLD => &[Way::Plain, Way::In(Manner::OLD)],
+            Operation::Body { .. } => &[Way::In(Manner::STRICT), Way::Converter],
+            _ => &[Way::In(Manner::STRICT)],
+        }
+    }
 }
 
 impl Size {

@@ -1,6 +1,6 @@
-//! One case: the expected answer and the port's, and a small input where they differ.
+//! One case in both dialects: the expected answers and the port's, and a small input where they differ.
 
-use crate::case::{Case, Lent, Rule, Size};
+use crate::case::{Case, Lent, Manner, Rule, Size, Way};
 use crate::port::Port;
 use crate::reckon::{Expected, Reckoner};
 
@@ -11,25 +11,63 @@ const TRIES: u32 = 20_000;
 pub struct Beside {
     pub reckoner: Reckoner,
     port: Port,
-    /// The expected number of the last case.
-    pub number: u32,
+    /// The expected numbers of the last case, in the old dialect and in the strict one.
+    pub numbers: [u32; 2],
+    /// How many answers of the port were compared.
+    pub answers: u64,
     tries: u32,
 }
 
+/// What is lent in a dialect, and the answer that is expected.
+struct Run {
+    manner: Manner,
+    lent: Lent,
+    expected: Expected,
+}
+
+/// An answer of the port that is not the expected one.
+struct Difference {
+    run: Run,
+    way: Way,
+    what: &'static str,
+}
+
 impl Beside {
-    fn run(&mut self, case: &Case) -> (Lent, Expected, Option<&'static str>) {
-        let needed = self.reckoner.needed(case.operation, &case.input);
+    fn reckon(&mut self, case: &Case, manner: Manner) -> Run {
+        let needed = self.reckoner.needed(manner, case.operation, &case.input);
         let lent = case.rule.lent(needed);
-        let expected = self.reckoner.expected(case.operation, &case.input, lent);
-        self.port.call(case.operation, &case.input, lent);
-        let difference = self.port.difference(case.operation, &case.input, &expected);
-        (lent, expected, difference)
+        let expected = self
+            .reckoner
+            .expected(manner, case.operation, &case.input, lent);
+        Run {
+            manner,
+            lent,
+            expected,
+        }
+    }
+
+    /// The first function whose answer differs; what it answered is still in the port.
+    fn difference(&mut self, case: &Case) -> Option<Difference> {
+        self.reckoner.begin();
+        let runs = Manner::ALL.map(|manner| self.reckon(case, manner));
+        self.numbers = [runs[0].expected.number, runs[1].expected.number];
+        for run in runs {
+            for &way in case.operation.ways(run.manner) {
+                self.answers += 1;
+                self.port.call(way, case.operation, &case.input, run.lent);
+                let what = self
+                    .port
+                    .difference(case.operation, &case.input, &run.expected);
+                if let Some(what) = what {
+                    return Some(Difference { run, way, what });
+                }
+            }
+        }
+        None
     }
 
     pub fn agrees(&mut self, case: &Case) -> bool {
-        let (_, expected, difference) = self.run(case);
-        self.number = expected.number;
-        difference.is_none()
+        self.difference(case).is_none()
     }
 
     /// Whether the case still differs, as long as there are tries left.
@@ -42,15 +80,16 @@ impl Beside {
     }
 
     pub fn report(&mut self, case: &Case) -> String {
-        let (lent, expected, difference) = self.run(case);
+        let shown = shown(&case.input);
+        let Some(Difference { run, way, what }) = self.difference(case) else {
+            return format!("\"{shown}\": the second run no longer differs");
+        };
         format!(
-            "{:?} \"{}\" with {:?}, that is {:?}: the {} differs\n  expected {}\n  port     {}",
+            "{:?} {way:?} \"{shown}\" with {:?}, that is {:?}: the {what} differs\n  expected {}\n  port     {}",
             case.operation,
-            shown(&case.input),
             case.rule,
-            lent,
-            difference.unwrap_or("second run no longer"),
-            expected.describe(),
+            run.lent,
+            run.expected.describe(),
             self.port.describe()
         )
     }

@@ -1,4 +1,4 @@
-//! Compares the port with the unchanged crate and with documents 01 and 02, byte for byte.
+//! Compares the port with the unchanged crate and with documents 01 and 02, byte for byte, each case in both dialects.
 //!
 //! Arguments: the crate's sources, seconds (300), seed (1), then the kinds to run (all).
 
@@ -12,6 +12,7 @@ mod model;
 mod oracle;
 mod paragraphs;
 mod port;
+mod printer;
 mod random;
 mod reckon;
 mod words;
@@ -29,7 +30,7 @@ const STACK: usize = 1 << 30;
 const BATCH: u64 = 2_000;
 const REPORTED: usize = 10;
 /// One more than the largest number of a refusal.
-const NUMBERS: usize = 15;
+const NUMBERS: usize = 16;
 
 type Make = Box<dyn Fn(u64) -> Option<Case>>;
 
@@ -40,7 +41,8 @@ struct Kind {
     /// Whether the kind has no last case.
     endless: bool,
     over: bool,
-    numbers: [u64; NUMBERS],
+    /// How often each number is expected, in the old dialect and in the strict one.
+    numbers: [[u64; NUMBERS]; 2],
     mismatches: u64,
 }
 
@@ -51,7 +53,7 @@ fn fixed_kind(name: &'static str, make: impl Fn(u64) -> Option<Case> + 'static) 
         next: 0,
         endless: false,
         over: false,
-        numbers: [0; NUMBERS],
+        numbers: [[0; NUMBERS]; 2],
         mismatches: 0,
     }
 }
@@ -79,6 +81,8 @@ fn fixed_kinds(words: &'static Words) -> Vec<Kind> {
         fixed_kind("nuls", fixed::nuls),
         fixed_kind("characters", fixed::character),
         fixed_kind("scripts", fixed::scripts),
+        fixed_kind("strict bodies", fixed::strict_bodies),
+        fixed_kind("strict documents", fixed::strict_documents),
         fixed_kind("tokens", fixed::tokens),
     ]
 }
@@ -114,7 +118,9 @@ impl Run {
                 kind.mismatches += 1;
                 self.report(kind, &case);
             }
-            kind.numbers[self.beside.number as usize] += 1;
+            for (numbers, number) in kind.numbers.iter_mut().zip(self.beside.numbers) {
+                numbers[number as usize] += 1;
+            }
             kind.next += 1;
         }
     }
@@ -124,11 +130,11 @@ impl Run {
             return;
         }
         self.reported += 1;
-        let number = self.beside.number;
+        let numbers = self.beside.numbers;
         let small = self.beside.shrink(case);
         let words = self.beside.report(&small);
         println!("MISMATCH in {} {}: {words}", kind.name, kind.next);
-        self.beside.number = number;
+        self.beside.numbers = numbers;
     }
 
     fn in_time(&self) -> bool {
@@ -155,18 +161,25 @@ impl Run {
     }
 }
 
+/// A row for each dialect.
 fn print_table(kinds: &[Kind]) {
-    print!("{:<16}{:>10}{:>10}", "kind", "cases", "accepted");
+    print!(
+        "{:<18}{:<8}{:>10}{:>10}",
+        "kind", "dialect", "cases", "accepted"
+    );
     for number in 1..NUMBERS {
         print!("{number:>9}");
     }
     println!();
     for kind in kinds {
-        print!("{:<16}{:>10}{:>10}", kind.name, kind.next, kind.numbers[0]);
-        for count in &kind.numbers[1..] {
-            print!("{count:>9}");
+        for (dialect, numbers) in ["old", "strict"].into_iter().zip(kind.numbers) {
+            print!("{:<18}{dialect:<8}{:>10}", kind.name, kind.next);
+            print!("{:>10}", numbers[0]);
+            for count in &numbers[1..] {
+                print!("{count:>9}");
+            }
+            println!();
         }
-        println!();
     }
 }
 
@@ -191,8 +204,9 @@ fn summary(run: &Run, kinds: &[Kind], seed: u64, begin: Instant) -> bool {
         reckoner.left, reckoner.left_accepted
     );
     println!(
-        "seed {seed}, {} seconds: {cases} compared, {mismatches} mismatches, {} faults of the reckoning",
+        "seed {seed}, {} seconds: {cases} cases, {} answers compared, {mismatches} mismatches, {} faults of the reckoning",
         begin.elapsed().as_secs(),
+        run.beside.answers,
         reckoner.faults.len()
     );
     cases > 0 && mismatches == 0 && reckoner.faults.is_empty()

@@ -4,6 +4,7 @@
 //! UTF-8, three dollars, the escapes, and all pages, which are put together from the crate's replacement of each paragraph.
 
 use crate::answers::{escapes, replaced};
+use crate::case::Manner;
 use crate::inputs::{nested, LEVELS};
 use crate::oracle;
 use crate::paragraphs::pieces;
@@ -442,10 +443,11 @@ fn pages_by_hand() -> Vec<Stored> {
     cases
 }
 
-/// A page that is cut by rule, document 02's where it has a CR LF; none where a paragraph has an escape that document 01 changes.
-pub fn page(document: &[u8]) -> Option<Stored> {
+/// A page that is cut by rule, document 02's where it has a CR LF or is in the strict dialect; none where a paragraph has an escape that document 01 changes.
+pub fn page(manner: Manner, document: &[u8]) -> Option<Stored> {
     let mut case = scope(Ask::Page, document);
-    if document.windows(2).any(|two| two == b"\r\n") {
+    case.manner = manner;
+    if manner.strict || document.windows(2).any(|two| two == b"\r\n") {
         case.source = Source::Document02;
     }
     for (turn, piece) in pieces(document).into_iter().enumerate() {
@@ -455,10 +457,10 @@ pub fn page(document: &[u8]) -> Option<Stored> {
         }
         case.paragraphs += 1;
         let text = std::str::from_utf8(piece).ok();
-        if text.is_some_and(escapes) {
+        if text.is_some_and(escapes) && manner == Manner::OLD {
             return None;
         }
-        let replaced = text.map(replaced);
+        let replaced = text.map(|text| replaced(manner, text));
         if let Some(replaced) = &replaced {
             case.source = replaced.source.max(case.source);
         }

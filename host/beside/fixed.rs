@@ -1,4 +1,4 @@
-//! The cases that are gone through one by one: characters, commands, sequences of tokens and of scripts, NULs, short documents, pages and line ends.
+//! The cases that are gone through one by one: characters, commands, sequences of tokens and of scripts, NULs, short documents, pages and line ends, and what the dialects print otherwise.
 
 use crate::case::{Case, Operation, Rule, Size};
 use crate::words::Words;
@@ -107,6 +107,42 @@ const OPERANDS: [&str; 13] = [
 ];
 
 const ENDS: [&str; 6] = ["", "^", "_ {", "'", "}", "\\middle a"];
+
+/// What the strict dialect prints otherwise or refuses, beside what it does not, and where such text is printed.
+const STRICT: [&str; 29] = [
+    "<",
+    ">",
+    "&",
+    "\\&",
+    "\\<",
+    "\\langle",
+    "\\ni",
+    "\\notin",
+    "∋",
+    "⟩",
+    "a",
+    "\x01",
+    "\\\x01",
+    "\u{fffe}",
+    "{",
+    "}",
+    "'",
+    "_",
+    "\\left",
+    "\\right",
+    "\\middle",
+    "\\bigl",
+    "\\slashed",
+    "\\text",
+    "\\operatorname",
+    "\\mathbf",
+    "\\hat",
+    "\\begin{align}",
+    "\\end",
+];
+
+/// Text that pass two reads again, and a character that only a body may not have.
+const STRICT_DOCUMENT: [&str; 7] = ["$", "$$", "<", "\x01", "\\$", "{", "\n\n"];
 
 /// Marks and bytes of short documents, all sequences of which are tried.
 const DOCUMENT: [&str; 6] = ["$", "$$", "x", "\\", "{", "}"];
@@ -234,6 +270,19 @@ pub fn scripts(index: u64) -> Option<Case> {
     }
     text.push_str(take(&ENDS));
     (rest == 0).then(|| body(text, index))
+}
+
+/// Every sequence of up to four.
+pub fn strict_bodies(index: u64) -> Option<Case> {
+    let (length, at) = within(STRICT.len() as u64, 4, index)?;
+    Some(body(join(&sequence(&STRICT, length, at)), index))
+}
+
+/// Every sequence of up to six, as a document and as a page.
+pub fn strict_documents(index: u64) -> Option<Case> {
+    let operations = [Operation::Replacement, Operation::Page];
+    let operation = operations[index as usize % 2];
+    text(operation, &STRICT_DOCUMENT, 6, index / 2)
 }
 
 /// All bytes, all pairs of bytes, and all sequences of four from the classes that UTF-8 tells apart.

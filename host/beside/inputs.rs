@@ -136,6 +136,12 @@ pub fn nested(open: &str, close: &str, levels: usize) -> String {
     format!("{}a{}", open.repeat(levels), close.repeat(levels))
 }
 
+/// Each command alone, and each arm.
+pub fn arms(words: &Words) -> impl Iterator<Item = String> + '_ {
+    let arms = ARMS.iter().map(|&latex| latex.to_owned());
+    words.all.iter().cloned().chain(arms)
+}
+
 fn commands(words: &Words) -> impl Iterator<Item = String> + '_ {
     let around = AROUND.iter();
     around.flat_map(|(before, behind)| {

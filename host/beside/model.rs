@@ -2,7 +2,9 @@
 //!
 //! No body that is read here has a NUL. A body that document 02 does not decide is held to the crate, its number and its markup; but for 10, since the crate has no limit.
 
+use crate::case::Manner;
 use crate::oracle::{wrapped, Answer};
+use crate::printer::{allowed, print_all, NI, NOT_IN};
 use latex2mathml::ast::Node;
 use latex2mathml::attribute::{Accent, ColumnAlign, LineThickness, Variant};
 use latex2mathml::token::Token;
@@ -30,14 +32,40 @@ impl Reading {
         let markup: String = nodes.iter().map(Node::to_string).collect();
         Ok(wrapped(&markup, block))
     }
+
+    /// The same by the printer of both dialects, which the crate's must not differ from.
+    pub fn old_answer(&self, block: bool) -> Answer {
+        let nodes = self.nodes.as_ref().map_err(|&number| number)?;
+        Ok(wrapped(&print_all(Manner::OLD, nodes), block))
+    }
+
+    /// The strict dialect's answer to the body that was read, with `\ni` apart: 15 comes behind the refusals of parsing.
+    pub fn strict_answer(&self, latex: &str, block: bool) -> Answer {
+        let nodes = self.nodes.as_ref().map_err(|&number| number)?;
+        if !latex.chars().all(allowed) {
+            return Err(15);
+        }
+        Ok(wrapped(&print_all(Manner::STRICT, nodes), block))
+    }
 }
 
+/// A body as the crate reads it, but for what document 02 decides.
 pub fn read(latex: &str) -> Reading {
+    read_with(latex, NOT_IN)
+}
+
+/// The same, with `\ni` told from `\notin`.
+pub fn read_apart(latex: &str) -> Reading {
+    read_with(latex, NI)
+}
+
+fn read_with(latex: &str, ni: char) -> Reading {
     let mut parser = Parser {
         rest: latex.chars(),
         current: Token::EOF,
         next: Token::EOF,
         leaves: false,
+        ni,
     };
     let nodes = parser.body();
     Reading {
@@ -51,6 +79,8 @@ struct Parser<'a> {
     current: Token,
     next: Token,
     leaves: bool,
+    /// The operator that `\ni` is.
+    ni: char,
 }
 
 type Read<T> = Result<T, u32>;
@@ -112,7 +142,10 @@ impl Parser<'_> {
             let one = self.rest.next().unwrap_or('\0');
             return Token::from_command(&one.to_string());
         }
-        Token::from_command(&name)
+        match name.as_str() {
+            "ni" => Token::Operator(self.ni),
+            name => Token::from_command(name),
+        }
     }
 }
 

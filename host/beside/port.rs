@@ -1,6 +1,6 @@
-//! Calls of the three exported functions over guarded buffers, so that every untouched byte can be looked at.
+//! Calls of the exported functions over guarded buffers, so that every untouched byte can be looked at.
 
-use crate::case::{Lent, Operation};
+use crate::case::{Lent, Manner, Operation, Way};
 use crate::compare::shown;
 use crate::ffi;
 use crate::reckon::Expected;
@@ -90,73 +90,84 @@ pub struct Port {
 }
 
 impl Port {
-    pub fn call(&mut self, operation: Operation, input: &[u8], lent: Lent) {
+    pub fn call(&mut self, way: Way, operation: Operation, input: &[u8], lent: Lent) {
         self.input.hold(input);
         self.store.fill_guards(lent.store);
         self.output.fill(lent.output);
         (self.length, self.paragraphs, self.left) = (UNSET, UNSET, UNSET);
         match operation {
-            Operation::Body { block } => self.body(block),
+            Operation::Body { block } => self.body(way, block),
             Operation::Replacement => {
                 self.work.fill(lent.work);
-                self.replacement();
+                self.replacement(way);
             }
             Operation::Page => {
                 self.work.fill_guards(lent.work);
-                self.page();
+                self.page(way);
             }
         }
     }
 
-    fn body(&mut self, block: bool) {
+    fn body(&mut self, way: Way, block: bool) {
+        let (text, text_len) = (self.input.start(), self.input.length);
+        let (store, store_len) = (self.store.start(), self.store.length);
+        let (out, out_len) = (self.output.start(), self.output.length);
+        let size = &mut self.length;
         // SAFETY: each pointer is to a region that has the length passed with it, and none overlap.
         self.number = unsafe {
-            ffi::latex_to_mathml(
-                self.input.start(),
-                self.input.length,
-                block,
-                self.store.start(),
-                self.store.length,
-                self.output.start(),
-                self.output.length,
-                &mut self.length,
-            )
+            match way {
+                Way::Plain => ffi::latex_to_mathml(
+                    text, text_len, block, store, store_len, out, out_len, size,
+                ),
+                Way::In(Manner { strict }) => ffi::latex_to_mathml_in(
+                    text, text_len, block, strict, store, store_len, out, out_len, size,
+                ),
+                Way::Converter => {
+                    ffi::latex_convert(text, text_len, block, store, store_len, out, out_len, size)
+                }
+            }
         };
     }
 
-    fn replacement(&mut self) {
+    fn replacement(&mut self, way: Way) {
+        let (text, text_len) = (self.input.start(), self.input.length);
+        let (store, store_len) = (self.store.start(), self.store.length);
+        let (work, work_len) = (self.work.start(), self.work.length);
+        let (out, out_len) = (self.output.start(), self.output.length);
+        let size = &mut self.length;
         // SAFETY: as in `body`.
         self.number = unsafe {
-            ffi::latex_replace(
-                self.input.start(),
-                self.input.length,
-                self.store.start(),
-                self.store.length,
-                self.work.start(),
-                self.work.length,
-                self.output.start(),
-                self.output.length,
-                &mut self.length,
-            )
+            match way {
+                Way::Plain => ffi::latex_replace(
+                    text, text_len, store, store_len, work, work_len, out, out_len, size,
+                ),
+                Way::In(Manner { strict }) => ffi::latex_replace_in(
+                    text, text_len, strict, store, store_len, work, work_len, out, out_len, size,
+                ),
+                Way::Converter => unreachable!("it has bodies only"),
+            }
         };
     }
 
-    fn page(&mut self) {
+    fn page(&mut self, way: Way) {
+        let (text, text_len) = (self.input.start(), self.input.length);
+        let (store, store_len) = (self.store.start(), self.store.length);
+        let (work, work_len) = (self.work.start(), self.work.length);
+        let (out, out_len) = (self.output.start(), self.output.length);
+        let (size, count, left) = (&mut self.length, &mut self.paragraphs, &mut self.left);
         // SAFETY: as in `body`.
         self.number = unsafe {
-            ffi::latex_page(
-                self.input.start(),
-                self.input.length,
-                self.store.start(),
-                self.store.length,
-                self.work.start(),
-                self.work.length,
-                self.output.start(),
-                self.output.length,
-                &mut self.length,
-                &mut self.paragraphs,
-                &mut self.left,
-            )
+            match way {
+                Way::Plain => ffi::latex_page(
+                    text, text_len, store, store_len, work, work_len, out, out_len, size, count,
+                    left,
+                ),
+                Way::In(Manner { strict }) => ffi::latex_page_in(
+                    text, text_len, strict, store, store_len, work, work_len, out, out_len, size,
+                    count, left,
+                ),
+                Way::Converter => unreachable!("it has bodies only"),
+            }
         };
     }
 

@@ -1,10 +1,11 @@
-//! The expected answers: the crate's where it decides, the model's where document 02 does, and document 01's order of refusals around them.
+//! The expected answers: the crate's where it decides, the model's where document 02 does, as for all of the strict dialect, and document 01's order of refusals around them.
 
-use crate::case::{Lent, Operation};
+use crate::case::{Lent, Manner, Operation};
 use crate::compare::shown;
 use crate::model::{self, Reading};
 use crate::oracle::{self, Answer};
 use crate::paragraphs::pieces;
+use crate::printer::undo_escapes;
 use std::collections::HashMap;
 use std::rc::Rc;
 
@@ -37,10 +38,22 @@ impl Expected {
     }
 }
 
+/// A body's answers in the two dialects.
 struct Body {
-    answer: Answer,
-    /// Whether a document and not the crate decides the answer.
+    old: Answer,
+    strict: Answer,
+    /// Whether a document and not the crate decides the old one.
     ours: bool,
+}
+
+impl Body {
+    fn answer(&self, manner: Manner) -> &Answer {
+        if manner.strict {
+            &self.strict
+        } else {
+            &self.old
+        }
+    }
 }
 
 /// Answers for one case at a time; bodies are kept, since a case asks for them more than once.
@@ -60,32 +73,6 @@ pub struct Reckoner {
     pub left_accepted: u64,
 }
 
-/// Undoes the one escape that document 01 leaves out: a character of 128 or above as the name of an unknown command.
-fn undo_escapes(markup: &str) -> String {
-    const OPEN: &str = "Command(\\\"\\\\u{";
-    let mut text = String::with_capacity(markup.len());
-    let mut rest = markup;
-    while let Some(at) = rest.find(OPEN) {
-        let digits = &rest[at + OPEN.len()..];
-        let end = digits.find('}').unwrap_or(0);
-        let code = u32::from_str_radix(&digits[..end], 16).unwrap_or(0);
-        match char::from_u32(code) {
-            Some(c) if code >= 128 => {
-                text.push_str(&rest[..at]);
-                text.push_str("Command(\\\"");
-                text.push(c);
-                rest = &digits[end + 1..];
-            }
-            _ => {
-                text.push_str(&rest[..at + OPEN.len()]);
-                rest = digits;
-            }
-        }
-    }
-    text.push_str(rest);
-    text
-}
-
 fn refused(number: u32) -> Expected {
     Expected {
         number,
@@ -101,44 +88,66 @@ fn dollars(text: &str, width: usize) -> Vec<usize> {
 }
 
 impl Reckoner {
-    /// What the operation needs; without limits of what is lent the crate's `replace` is asked as well.
-    pub fn needed(&mut self, operation: Operation, input: &[u8]) -> Lent {
+    /// Forgets the bodies of the case before.
+    pub fn begin(&mut self) {
         self.bodies.clear();
+    }
+
+    /// What the operation needs; without limits of what is lent the crate's `replace` is asked as well.
+    pub fn needed(&mut self, manner: Manner, operation: Operation, input: &[u8]) -> Lent {
         self.needed = Some(Lent::NOTHING);
-        let expected = self.expected(operation, input, Lent::UNLIMITED);
+        let expected = self.expected(manner, operation, input, Lent::UNLIMITED);
         let mut needed = self.needed.take().unwrap_or(Lent::NOTHING);
         needed.output = expected.output.len();
         needed
     }
 
-    pub fn expected(&mut self, operation: Operation, input: &[u8], lent: Lent) -> Expected {
+    pub fn expected(
+        &mut self,
+        manner: Manner,
+        operation: Operation,
+        input: &[u8],
+        lent: Lent,
+    ) -> Expected {
         match operation {
-            Operation::Body { block } => self.translate(input, block, lent),
-            Operation::Replacement => self.replace(input, lent),
-            Operation::Page => self.page(input, lent),
+            Operation::Body { block } => self.translate(manner, input, block, lent),
+            Operation::Replacement => self.replace(manner, input, lent),
+            Operation::Page => self.page(manner, input, lent),
         }
     }
 
     /// The model's answer where a document decides, the crate's for every other body.
     fn ask(&mut self, latex: &str, block: bool) -> Body {
-        let reading = model::read(latex);
+        let (reading, apart) = (model::read(latex), model::read_apart(latex));
+        self.hold_apart(latex, block, &reading, &apart);
+        let strict = apart.strict_answer(latex, block);
         let ours = reading.leaves || reading.number() == 10;
         self.left += u64::from(reading.leaves);
         self.left_accepted += u64::from(reading.leaves && reading.number() == 0);
-        let answer = if ours {
+        let old = if ours {
             reading.answer(block)
         } else {
             self.held(latex, block, &reading)
         };
-        let Ok(markup) = answer else {
-            return Body { answer, ours };
+        let Ok(markup) = old else {
+            return Body { old, strict, ours };
         };
         let text = undo_escapes(&markup);
         let changed = text != markup;
         self.undone += u64::from(changed);
         Body {
-            answer: Ok(text),
+            old: Ok(text),
+            strict,
             ours: ours || changed,
+        }
+    }
+
+    /// Holds the reading with `\ni` apart, and the printer of both dialects, to the other reading and the crate's printer.
+    fn hold_apart(&mut self, latex: &str, block: bool, reading: &Reading, apart: &Reading) {
+        if apart.old_answer(block) != reading.answer(block) {
+            let body = latex.escape_debug();
+            let fault = format!("body \"{body}\": the crate prints it otherwise");
+            self.faults.push(fault);
         }
     }
 
@@ -154,8 +163,14 @@ impl Reckoner {
         answer
     }
 
-    /// A body that is well formed and has no NUL: 1, 3, then the parser's refusals.
-    fn body(&mut self, latex: &str, block: bool, store: usize) -> Result<Rc<Body>, u32> {
+    /// A body that is well formed and has no NUL: 1, 3, then the parser's refusals, and 15 behind them in the strict dialect.
+    fn body(
+        &mut self,
+        manner: Manner,
+        latex: &str,
+        block: bool,
+        store: usize,
+    ) -> Result<Rc<Body>, u32> {
         if latex.len() > BODY_LIMIT {
             self.ours = true;
             return Err(1);
@@ -176,13 +191,13 @@ impl Reckoner {
             }
         };
         self.ours |= body.ours;
-        match body.answer {
+        match *body.answer(manner) {
             Ok(_) => Ok(body),
             Err(number) => Err(number),
         }
     }
 
-    fn translate(&mut self, latex: &[u8], block: bool, lent: Lent) -> Expected {
+    fn translate(&mut self, manner: Manner, latex: &[u8], block: bool, lent: Lent) -> Expected {
         if latex.len() > BODY_LIMIT {
             return refused(1);
         }
@@ -192,11 +207,11 @@ impl Reckoner {
         if latex.contains('\0') {
             return refused(14);
         }
-        let body = match self.body(latex, block, lent.store) {
+        let body = match self.body(manner, latex, block, lent.store) {
             Ok(body) => body,
             Err(number) => return refused(number),
         };
-        let markup = body.answer.as_deref().unwrap_or_default();
+        let markup = body.answer(manner).as_deref().unwrap_or_default();
         if markup.len() > lent.output {
             return refused(12);
         }
@@ -209,6 +224,7 @@ impl Reckoner {
     /// Translates the bodies between the marks, taken first with second, third with fourth.
     fn substitute(
         &mut self,
+        manner: Manner,
         text: &str,
         marks: &[usize],
         width: usize,
@@ -218,15 +234,15 @@ impl Reckoner {
         let mut from = 0;
         for pair in marks.chunks_exact(2) {
             result.push_str(&text[from..pair[0]]);
-            let body = self.body(&text[pair[0] + width..pair[1]], width == 2, store)?;
-            result.push_str(body.answer.as_deref().unwrap_or_default());
+            let body = self.body(manner, &text[pair[0] + width..pair[1]], width == 2, store)?;
+            result.push_str(body.answer(manner).as_deref().unwrap_or_default());
             from = pair[1] + width;
         }
         result.push_str(&text[from..]);
         Ok(result)
     }
 
-    fn first_pass(&mut self, document: &str, store: usize) -> Result<String, u32> {
+    fn first_pass(&mut self, manner: Manner, document: &str, store: usize) -> Result<String, u32> {
         let windows = dollars(document, 2);
         if windows.len() % 2 != 0 {
             return Err(4);
@@ -235,18 +251,18 @@ impl Reckoner {
             self.ours = true;
             return Err(5);
         }
-        self.substitute(document, &windows, 2, store)
+        self.substitute(manner, document, &windows, 2, store)
     }
 
-    fn second_pass(&mut self, text: &str, store: usize) -> Result<String, u32> {
+    fn second_pass(&mut self, manner: Manner, text: &str, store: usize) -> Result<String, u32> {
         let marks = dollars(text, 1);
         if marks.len() % 2 != 0 {
             return Err(4);
         }
-        self.substitute(text, &marks, 1, store)
+        self.substitute(manner, text, &marks, 1, store)
     }
 
-    fn replace(&mut self, document: &[u8], lent: Lent) -> Expected {
+    fn replace(&mut self, manner: Manner, document: &[u8], lent: Lent) -> Expected {
         if document.len() > DOCUMENT_LIMIT {
             return refused(1);
         }
@@ -257,15 +273,15 @@ impl Reckoner {
             return refused(14);
         }
         self.ours = false;
-        let expected = self.two_passes(document, lent);
-        if self.needed.is_some() && !self.ours {
+        let expected = self.two_passes(manner, document, lent);
+        if self.needed.is_some() && !self.ours && manner == Manner::OLD {
             self.confirm(document, &expected);
         }
         expected
     }
 
-    fn two_passes(&mut self, document: &str, lent: Lent) -> Expected {
-        let first = match self.first_pass(document, lent.store) {
+    fn two_passes(&mut self, manner: Manner, document: &str, lent: Lent) -> Expected {
+        let first = match self.first_pass(manner, document, lent.store) {
             Ok(text) => text,
             Err(number) => return refused(number),
         };
@@ -275,7 +291,7 @@ impl Reckoner {
         if first.len() > lent.work {
             return refused(11);
         }
-        let second = self.second_pass(&first, lent.store);
+        let second = self.second_pass(manner, &first, lent.store);
         let (number, output) = match second {
             Ok(text) if text.len() > lent.output => (12, String::new()),
             Ok(text) => (0, text),
@@ -306,7 +322,7 @@ impl Reckoner {
         }
     }
 
-    fn page(&mut self, document: &[u8], lent: Lent) -> Expected {
+    fn page(&mut self, manner: Manner, document: &[u8], lent: Lent) -> Expected {
         if document.len() > DOCUMENT_LIMIT {
             return refused(1);
         }
@@ -321,7 +337,7 @@ impl Reckoner {
                 continue;
             }
             page.paragraphs += 1;
-            let replaced = self.replace(piece, unlimited);
+            let replaced = self.replace(manner, piece, unlimited);
             if replaced.number == 0 {
                 page.output.extend_from_slice(&replaced.output);
             } else {

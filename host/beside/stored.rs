@@ -1,5 +1,7 @@
 //! A case as it stands in the stored list, one to a line; crates/vectors/src/main.rt describes the line.
 
+use crate::case::Manner;
+
 pub const BLOCK: &str = "<math xmlns=\"http://www.w3.org/1998/Math/MathML\" display=\"block\">";
 pub const INLINE: &str = "<math xmlns=\"http://www.w3.org/1998/Math/MathML\" display=\"inline\">";
 pub const CLOSE: &str = "</math>";
@@ -37,6 +39,7 @@ pub struct Lent {
 #[derive(Clone, Debug)]
 pub struct Stored {
     pub ask: Ask,
+    pub manner: Manner,
     pub lent: Lent,
     pub input: Vec<u8>,
     pub number: u32,
@@ -53,6 +56,7 @@ impl Stored {
     pub fn new(ask: Ask, input: impl AsRef<[u8]>) -> Stored {
         Stored {
             ask,
+            manner: Manner::OLD,
             lent: Lent::default(),
             input: input.as_ref().to_vec(),
             number: 0,
@@ -97,6 +101,21 @@ impl Stored {
         self
     }
 
+    /// The same asked for in the strict dialect, which document 02 decides.
+    pub fn strict(self) -> Stored {
+        Stored {
+            manner: Manner::STRICT,
+            source: Source::Document02,
+            ..self
+        }
+    }
+
+    /// Whether the answers are the same, whatever is asked.
+    pub fn answers_as(&self, other: &Stored) -> bool {
+        let numbers = |case: &Stored| (case.number, case.paragraphs, case.left);
+        numbers(self) == numbers(other) && self.output == other.output && self.work == other.work
+    }
+
     fn head(&self) -> String {
         let mut head = String::from(match self.ask {
             Ask::Both => "M",
@@ -105,6 +124,9 @@ impl Stored {
             Ask::Document => "D",
             Ask::Page => "P",
         });
+        if self.manner.strict {
+            head.push('S');
+        }
         head.push_str(match self.source {
             Source::Crate => "",
             Source::Document01 => "!",

@@ -7,19 +7,24 @@ mod answers;
 mod case;
 mod document01;
 mod document02;
+mod document02_strict;
 #[allow(dead_code)]
 mod fixed;
 #[allow(dead_code)]
 mod generate;
 mod inputs;
+#[allow(dead_code)]
 mod model;
 mod oracle;
 mod paragraphs;
+#[allow(dead_code)]
+mod printer;
 mod random;
 mod stored;
 #[allow(dead_code)]
 mod words;
 
+use case::Manner;
 use std::collections::HashSet;
 use std::io::Write;
 use std::path::Path;
@@ -35,7 +40,7 @@ fn lines(cases: Vec<Stored>) -> Vec<u8> {
     let mut seen = HashSet::new();
     let mut lines = Vec::new();
     for case in cases {
-        if seen.insert((case.ask, case.lent, case.input.clone())) {
+        if seen.insert((case.ask, case.manner, case.lent, case.input.clone())) {
             lines.extend(case.line());
         }
     }
@@ -54,14 +59,35 @@ fn agree(case: &Stored) -> bool {
         return model::read(text).number() == 10;
     }
     let made = match case.ask {
-        Ask::Both => answers::body(text),
-        Ask::Document => answers::document(text),
+        Ask::Both => answers::body(case.manner, text),
+        Ask::Document => answers::document(case.manner, text),
+        Ask::Page if case.manner.strict => document01::page(case.manner, &case.input),
         _ => None,
     };
-    made.map_or(true, |answer| {
-        (answer.number, answer.output, answer.work)
-            == (case.number, case.output.clone(), case.work.clone())
-    })
+    made.map_or(true, |answer| answer.answers_as(case))
+}
+
+/// The strict answer, where it is not the old one.
+fn otherwise(made: impl Fn(Manner) -> Option<Stored>) -> Option<Stored> {
+    let strict = made(Manner::STRICT)?;
+    let same = made(Manner::OLD).is_some_and(|old| old.answers_as(&strict));
+    (!same).then_some(strict)
+}
+
+/// The inputs in the old dialect, then the strict answers: to each arm, and to every other input that has another one.
+fn made(words: &Words) -> Vec<Stored> {
+    let mut cases = Vec::new();
+    let body = |latex: &str, manner| answers::body(manner, latex);
+    let document = |text: &str, manner| answers::document(manner, text);
+    let page = |text: &[u8], manner| document01::page(manner, text);
+    cases.extend(inputs::bodies(words).filter_map(|latex| body(&latex, Manner::OLD)));
+    cases.extend(inputs::documents(words).filter_map(|text| document(&text, Manner::OLD)));
+    cases.extend(inputs::pages(words).filter_map(|text| page(&text, Manner::OLD)));
+    cases.extend(inputs::arms(words).filter_map(|latex| body(&latex, Manner::STRICT)));
+    cases.extend(inputs::bodies(words).filter_map(|latex| otherwise(|m| body(&latex, m))));
+    cases.extend(inputs::documents(words).filter_map(|text| otherwise(|m| document(&text, m))));
+    cases.extend(inputs::pages(words).filter_map(|text| otherwise(|m| page(&text, m))));
+    cases
 }
 
 fn write_list() -> Result<(), String> {
@@ -72,12 +98,11 @@ fn write_list() -> Result<(), String> {
     oracle::silence_panics();
     let mut cases = document01::cases();
     cases.extend(document02::cases());
+    cases.extend(document02_strict::cases());
     if let Some(case) = cases.iter().find(|case| !agree(case)) {
         return Err(format!("what is written by hand is not made: {case:?}"));
     }
-    cases.extend(inputs::bodies(&words).filter_map(|latex| answers::body(&latex)));
-    cases.extend(inputs::documents(&words).filter_map(|text| answers::document(&text)));
-    cases.extend(inputs::pages(&words).filter_map(|text| document01::page(&text)));
+    cases.extend(made(&words));
     let mut out = std::io::stdout().lock();
     out.write_all(&lines(cases))
         .map_err(|error| error.to_string())

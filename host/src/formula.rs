@@ -1,6 +1,6 @@
 //! Which formula of a document its replacement refuses: the bodies are translated alone, in the order of the replacement.
 
-use crate::{latex_to_mathml, Display, Lent, Refusal};
+use crate::{latex_to_mathml_in, Display, Lent, Manner, Refusal};
 
 /// A formula whose body is refused.
 #[derive(Clone, Debug, PartialEq, Eq)]
@@ -17,14 +17,24 @@ pub struct Formula {
 
 /// The first formula that is refused in a document whose replacement is refused in a body; none where dollars do not pair.
 pub fn first_refused(document: &[u8], store: &mut [u8]) -> Option<Formula> {
-    match pass(document, Display::Block, store) {
-        Ok(text) => pass(&text, Display::Inline, store).err().flatten(),
+    first_refused_in(document, Manner::OLD, store)
+}
+
+/// The same where the document is replaced in this manner.
+pub fn first_refused_in(document: &[u8], manner: Manner, store: &mut [u8]) -> Option<Formula> {
+    match pass(document, Display::Block, manner, store) {
+        Ok(text) => pass(&text, Display::Inline, manner, store).err().flatten(),
         Err(stop) => stop,
     }
 }
 
 /// The text after one pass, or the formula that stops it.
-fn pass(text: &[u8], display: Display, store: &mut [u8]) -> Result<Vec<u8>, Option<Formula>> {
+fn pass(
+    text: &[u8],
+    display: Display,
+    manner: Manner,
+    store: &mut [u8],
+) -> Result<Vec<u8>, Option<Formula>> {
     let mark: &[u8] = match display {
         Display::Block => b"$$",
         Display::Inline => b"$",
@@ -39,7 +49,7 @@ fn pass(text: &[u8], display: Display, store: &mut [u8]) -> Result<Vec<u8>, Opti
         // no slice where three dollars stand in a row and their windows overlap
         let prose = text.get(behind..pair[0]).ok_or(None)?;
         let body = text.get(pair[0] + mark.len()..pair[1]).ok_or(None)?;
-        let markup = translate(body, display, store).map_err(|refusal| Formula {
+        let markup = translate(body, display, manner, store).map_err(|refusal| Formula {
             display,
             number,
             body: body.to_vec(),
@@ -63,7 +73,12 @@ fn places(text: &[u8], mark: &[u8]) -> Vec<usize> {
 }
 
 /// A body translated alone, with an output long enough.
-fn translate(body: &[u8], display: Display, store: &mut [u8]) -> Result<Vec<u8>, Refusal> {
+fn translate(
+    body: &[u8],
+    display: Display,
+    manner: Manner,
+    store: &mut [u8],
+) -> Result<Vec<u8>, Refusal> {
     let mut output = vec![0; 1024];
     loop {
         let mut lent = Lent {
@@ -71,7 +86,7 @@ fn translate(body: &[u8], display: Display, store: &mut [u8]) -> Result<Vec<u8>,
             work: &mut [],
             output: &mut output,
         };
-        match latex_to_mathml(body, display, &mut lent) {
+        match latex_to_mathml_in(body, display, manner, &mut lent) {
             Ok(markup) => return Ok(markup.to_vec()),
             Err(Refusal::OutputTooSmall) => output.resize(2 * output.len(), 0),
             Err(refusal) => return Err(refusal),

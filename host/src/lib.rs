@@ -1,11 +1,14 @@
 //! The three operations of document 01 for a host program: body translation, replacement and page, over buffers that the
-//! caller lends. They take about 1 MB of stack at most (decision 52).
+//! caller lends; and beside them the same in document 02's strict dialect, and the converter. They take about 1 MB of stack
+//! at most (decision 52).
 
 pub mod ffi;
 pub mod formula;
+mod manner;
 pub mod paragraph;
 mod refusal;
 
+pub use manner::{convert, latex_to_mathml_in, page_in, replace_in, Manner};
 pub use refusal::Refusal;
 
 /// Buffers of any size, 0 too, that an operation works in; nothing else is allocated.

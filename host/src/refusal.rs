@@ -33,13 +33,15 @@ pub enum Refusal {
     RepeatedMark,
     /// 14: a NUL byte in a body or a document
     NulByte,
+    /// 15: a body with a character that XML 1.0 forbids, in the strict dialect only
+    ForbiddenCharacter,
     /// An answer that the documents do not have, which only another version of the archive can give.
     Unknown(u32),
 }
 
 impl Refusal {
     /// All of them, in the order of their numbers.
-    pub const ALL: [Refusal; 14] = [
+    pub const ALL: [Refusal; 15] = [
         Refusal::TooLong,
         Refusal::IllFormed,
         Refusal::StoreTooSmall,
@@ -54,6 +56,7 @@ impl Refusal {
         Refusal::OutputTooSmall,
         Refusal::RepeatedMark,
         Refusal::NulByte,
+        Refusal::ForbiddenCharacter,
     ];
 
     /// The refusal that a number stands for; 0 stands for none.
@@ -81,6 +84,7 @@ impl Refusal {
             Refusal::OutputTooSmall => 12,
             Refusal::RepeatedMark => 13,
             Refusal::NulByte => 14,
+            Refusal::ForbiddenCharacter => 15,
             Refusal::Unknown(number) => number,
         }
     }
@@ -102,6 +106,7 @@ impl Refusal {
             Refusal::OutputTooSmall => "OutputTooSmall",
             Refusal::RepeatedMark => "RepeatedMark",
             Refusal::NulByte => "NulByte",
+            Refusal::ForbiddenCharacter => "ForbiddenCharacter",
             Refusal::Unknown(_) => "Unknown",
         }
     }
@@ -123,6 +128,7 @@ impl Refusal {
             Refusal::OutputTooSmall => "What comes out is longer than the memory that is set aside for it: make the text shorter.",
             Refusal::RepeatedMark => "Two `_`, or two `^`, stand on the same sign: put braces around what belongs together, as in `x_{a_b}`.",
             Refusal::NulByte => "A NUL, a character that does not show, stands in the text: delete the words around it and type them again.",
+            Refusal::ForbiddenCharacter => "A character that the panel's browser rejects, most of which do not show, stands in a formula: delete the formula and type it again.",
             Refusal::Unknown(_) => "The archive gave an answer that is not known here: build it and this program from the same sources.",
         }
     }
@@ -139,6 +145,7 @@ impl Refusal {
                 | Refusal::MiddleOperand
                 | Refusal::TooDeep
                 | Refusal::RepeatedMark
+                | Refusal::ForbiddenCharacter
         )
     }
 }
@@ -158,16 +165,17 @@ mod tests {
     #[test]
     fn the_numbers_have_no_gap() {
         let numbers: Vec<u32> = Refusal::ALL.iter().map(|r| r.number()).collect();
-        assert_eq!(numbers, [1, 2, 3, 4, 5, 6, 7, 8, 9, 10, 11, 12, 13, 14]);
+        assert_eq!(numbers, [1, 2, 3, 4, 5, 6, 7, 8, 9, 10, 11, 12, 13, 14, 15]);
         assert_eq!(Refusal::from_number(4), Refusal::InvalidNumberOfDollarSigns);
         assert_eq!(Refusal::from_number(12), Refusal::OutputTooSmall);
         assert_eq!(Refusal::from_number(13), Refusal::RepeatedMark);
         assert_eq!(Refusal::from_number(14), Refusal::NulByte);
+        assert_eq!(Refusal::from_number(15), Refusal::ForbiddenCharacter);
     }
 
     #[test]
     fn other_numbers_are_unknown() {
-        for number in [0, 15, u32::MAX] {
+        for number in [0, 16, u32::MAX] {
             assert_eq!(Refusal::from_number(number), Refusal::Unknown(number));
             assert_eq!(Refusal::Unknown(number).number(), number);
         }
@@ -180,7 +188,7 @@ mod tests {
             .filter(|r| r.is_of_a_body())
             .map(Refusal::number)
             .collect();
-        assert_eq!(numbers, [1, 3, 6, 7, 8, 9, 10, 13]);
+        assert_eq!(numbers, [1, 3, 6, 7, 8, 9, 10, 13, 15]);
     }
 
     #[test]

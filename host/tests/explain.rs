@@ -1,7 +1,7 @@
 //! The program explain on whole pages, its output written by hand; and its search for a formula beside the replacement.
 
-use host::formula::first_refused;
-use host::{latex_to_mathml, replace, Display, Lent, Refusal};
+use host::formula::{first_refused, first_refused_in};
+use host::{latex_to_mathml, replace_in, Display, Lent, Manner, Refusal};
 use std::io::Write;
 use std::process::{Command, Stdio};
 
@@ -315,7 +315,7 @@ fn what_the_sentences_advise_is_accepted() {
 }
 
 /// Pieces of which documents are made: dollars of every kind, and bodies that are accepted and refused.
-const PIECES: [&str; 15] = [
+const PIECES: [&str; 16] = [
     "$",
     "$",
     "$$",
@@ -331,6 +331,7 @@ const PIECES: [&str; 15] = [
     "^",
     "_",
     r"\begin{q}",
+    "\u{1}",
 ];
 
 /// A document made of as many pieces as wanted, the same for the same seed.
@@ -352,22 +353,27 @@ fn the_formula_found_is_refused_as_the_document_is() {
         work: &mut work,
         output: &mut output,
     };
-    let (mut seed, mut named) = (7, 0);
-    for i in 0..100_000 {
-        let text = document(&mut seed, 2 + i % 15);
-        let Err(refusal) = replace(text.as_bytes(), &mut lent) else {
-            continue;
-        };
-        if refusal.is_of_a_body() {
-            let found = first_refused(text.as_bytes(), lent.store).map(|f| f.refusal);
-            assert_eq!(found, Some(refusal), "{text}");
-            named += 1;
+    for manner in [Manner::OLD, Manner::STRICT] {
+        let (mut seed, mut named) = (7, [0; 16]);
+        for i in 0..100_000 {
+            let text = document(&mut seed, 2 + i % 15);
+            let Err(refusal) = replace_in(text.as_bytes(), manner, &mut lent) else {
+                continue;
+            };
+            if refusal.is_of_a_body() {
+                let found = first_refused_in(text.as_bytes(), manner, lent.store);
+                assert_eq!(
+                    found.map(|f| f.refusal),
+                    Some(refusal),
+                    "{text}, {manner:?}"
+                );
+                named[refusal.number() as usize] += 1;
+            }
         }
+        let all: u32 = named.iter().sum();
+        assert!(all > 5_000, "only {all} documents were refused in a body");
+        assert_eq!(named[15] > 500, manner.strict, "{} by 15", named[15]);
     }
-    assert!(
-        named > 5_000,
-        "only {named} documents were refused in a body"
-    );
 }
 
 #[test]
