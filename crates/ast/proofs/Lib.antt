@@ -1,7 +1,7 @@
 pub mod CellLaws
 pub mod HeldLaws
 pub mod KindLaws
-pub mod PlainLaws
+pub mod FitLaws
 pub mod RowLaws
 pub mod ShapeLaws
 pub mod StoreLaws

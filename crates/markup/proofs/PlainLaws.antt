@@ -21,7 +21,7 @@ use Rattle.token.specs.declared.Undefined.{Undefined}
 use Rattle.token.specs.Texts.{textOf, textIn}
 use Rattle.token.specs.Command.{operatorIn}
 use Rattle.token.specs.Debug.{escape, debug}
-use Rattle.token.proofs.PlainLaws.{text-plain, width-plain, escape-plain, debug-plain}
+use Rattle.token.proofs.PlainLaws.{dollarless, text-plain, width-plain, escape-plain, debug-plain}
 use Rattle.lexer.proofs.PlainLaws.{letters-plain}
 use Rattle.ast.specs.declared.Stretched.{Stretched}
 use Rattle.ast.specs.declared.Leaf.{Leaf}
@@ -29,7 +29,7 @@ use Rattle.ast.specs.declared.One.{One}
 use Rattle.ast.specs.declared.Two.{Two}
 use Rattle.ast.specs.declared.Three.{Three}
 use Rattle.ast.specs.Tree.{Node, leaf, one, two, three, row, matrix, Nodes, empty, _then_}
-use Rattle.ast.proofs.PlainLaws.{stretchedPlain, leafPlain, onePlain, TreePlain, AllPlain}
+use Rattle.ast.proofs.FitLaws.{StretchedFit, LeafFit, OneFit, TreeFit, AllFit}
 use Rattle.markup.specs.Print.{fixedText, widthText, letterText, character, operatorText, stretchedText, variantText, letterMarkup, operatorMarkup, parseError, sizedEnd, sizedMarkup, undefinedMarkup, printLeaf, slashLeaf, slash, displayText, printOne, printTwo, printThree, cellLeaf, cell, alignText, print, printAll, printCells}
 use Rattle.markup.proofs.PrintLaws.{italic-letter, other-letter}
 
@@ -76,7 +76,7 @@ operator-text-plain d c h = character-plain d (operatorIn d c) (operator-in-plai
 
 -- ---- leaves
 
-stretched-plain : (d : Dialect) (o : Stretched) → stretchedPlain o ≡ true → plain (stretchedText d o) ≡ true
+stretched-plain : (d : Dialect) (o : Stretched) → StretchedFit dollarless o → plain (stretchedText d o) ≡ true
 unfolding stretchedText
 stretched-plain d (Stretched.Character c) h = operator-text-plain d c h
 stretched-plain d (Stretched.Fixed t) h = fixed-plain d t
@@ -93,7 +93,7 @@ operator-plain d c h =
     by-test (eqb c 8706) (λ e. rw (operatorMarkup, e) (plain-bytes _ refl)) (λ e. rw (operatorMarkup, e) (simp (joined, operator-text-plain d c h)))
 
 -- of a leaf with the plain markup m, what stands under a slash and in a matrix is plain
-slash-leaf-plain : (d : Dialect) (l : Leaf) (m : List ℕ) → leafPlain l ≡ true → plain m ≡ true → plain (slashLeaf d l m) ≡ true
+slash-leaf-plain : (d : Dialect) (l : Leaf) (m : List ℕ) → LeafFit dollarless l → plain m ≡ true → plain (slashLeaf d l m) ≡ true
 unfolding slashLeaf
 slash-leaf-plain d (Leaf.Number a e) m h k = k
 slash-leaf-plain d (Leaf.Letter c v) m h k = simp (joined, attribute-plain v, character-plain d c h)
@@ -127,7 +127,7 @@ cell-leaf-plain (Leaf.Undefined u) m k = k
 
 -- ---- nodes over the markup of their parts
 
-slash-plain : (d : Dialect) (t : Node) (m : List ℕ) → TreePlain t → plain m ≡ true → plain (slash d t m) ≡ true
+slash-plain : (d : Dialect) (t : Node) (m : List ℕ) → TreeFit dollarless t → plain m ≡ true → plain (slash d t m) ≡ true
 unfolding slash
 slash-plain d (leaf l) m h k = slash-leaf-plain d l m h k
 slash-plain d (one x a) m h k = k
@@ -145,7 +145,7 @@ cell-plain (three x a b c) m k = k
 cell-plain (row ns) m k = k
 cell-plain (matrix align ns) m k = k
 
-one-plain : (d : Dialect) (x : One) (a : Node) (m : List ℕ) → onePlain x ≡ true → TreePlain a → plain m ≡ true → plain (printOne d x a m) ≡ true
+one-plain : (d : Dialect) (x : One) (a : Node) (m : List ℕ) → OneFit dollarless x → TreeFit dollarless a → plain m ≡ true → plain (printOne d x a m) ≡ true
 unfolding printOne
 one-plain d (One.OverOp c acc) a m h t k = simp (joined, k, accent-plain acc, character-plain d c h)
 one-plain d (One.UnderOp c acc) a m h t k = simp (joined, k, accent-plain acc, character-plain d c h)
@@ -183,7 +183,7 @@ module _ (d : Dialect) (s : List ℕ) (body : plain s ≡ true) where
       let whole : plain (bytes "Undefined(\"" ++ escape (debug s u) ++ bytes "\")") ≡ true = simp (joined, once) in
       simp (joined, plain-text d _ whole)
 
-  leaf-plain : (l : Leaf) → leafPlain l ≡ true → plain (printLeaf d s l) ≡ true
+  leaf-plain : (l : Leaf) → LeafFit dollarless l → plain (printLeaf d s l) ≡ true
   unfolding printLeaf widthText sizedMarkup parseError
   leaf-plain (Leaf.Number a e) h = simp (joined, plain-part a e s body)
   leaf-plain (Leaf.Letter c v) h = letter-plain d c v h
@@ -202,7 +202,7 @@ module _ (d : Dialect) (s : List ℕ) (body : plain s ≡ true) where
   mutual
     unfolding print
 
-    pub print-plain : (t : Node) → TreePlain t → plain (print d s t) ≡ true
+    pub print-plain : (t : Node) → TreeFit dollarless t → plain (print d s t) ≡ true
     print-plain (leaf l) h = leaf-plain l h
     print-plain (one k a) h = one-plain d k a (print d s a) (h .0) (h .1) (print-plain a (h .1))
     print-plain (two k a b) h = two-plain k (print d s a) (print d s b) (print-plain a (h .0)) (print-plain b (h .1))
@@ -211,10 +211,10 @@ module _ (d : Dialect) (s : List ℕ) (body : plain s ≡ true) where
     print-plain (row ns) h = simp (joined, all-plain ns h)
     print-plain (matrix align ns) h = simp (joined, align-in-plain d align, cells-plain ns h)
 
-    pub all-plain : (ns : Nodes) → AllPlain ns → plain (printAll d s ns) ≡ true
+    pub all-plain : (ns : Nodes) → AllFit dollarless ns → plain (printAll d s ns) ≡ true
     all-plain empty h = plain-bytes "" refl
     all-plain (n then ns) h = simp (joined, print-plain n (h .0), all-plain ns (h .1))
 
-    cells-plain : (ns : Nodes) → AllPlain ns → plain (printCells d s ns) ≡ true
+    cells-plain : (ns : Nodes) → AllFit dollarless ns → plain (printCells d s ns) ≡ true
     cells-plain empty h = plain-bytes "" refl
     cells-plain (n then ns) h = simp (joined, cell-plain n (print d s n) (print-plain n (h .0)), cells-plain ns (h .1))

@@ -4,7 +4,7 @@ pub mod TreeLaws
 pub mod KeepLaws
 pub mod ArmLaws
 pub mod BodyLaws
-pub mod PlainLaws
+pub mod FitLaws
 pub mod MarkLaws
 pub mod TextLaws
 pub mod EnvironmentLaws

@@ -1,6 +1,7 @@
 pub mod Agree
 pub mod CompareLaws
 pub mod DebugLaws
+pub mod FitLaws
 pub mod OldLaws
 pub mod Ordered
 pub mod Packed
