@@ -11,3 +11,4 @@ pub mod PassLaws
 pub mod ReplaceLaws
 pub mod ProseLaws
 pub mod PlainLaws
+pub mod WholeLaws

@@ -7,5 +7,6 @@ pub mod Dollars
 pub mod Search
 pub mod Laid
 pub mod Related
+pub mod Documents
 pub mod Marked
 pub mod Examples

@@ -1,4 +1,5 @@
 pub mod ClassLaws
+pub mod CleanLaws
 pub mod FitLaws
 pub mod LettersLaws
 pub mod NameLaws

@@ -5,3 +5,5 @@ pub mod PrintLaws
 pub mod ShortLaws
 pub mod OwnLaws
 pub mod LengthLaws
+pub mod NestLaws
+pub mod StrictLaws

@@ -2,3 +2,5 @@ pub mod Print
 pub mod Fronts
 pub mod Examples
 pub mod Own
+pub mod Nest
+pub mod NestExamples
