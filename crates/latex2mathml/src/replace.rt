@@ -8,10 +8,11 @@ use crate::dollars::odd_marks;
 use crate::dollars::three_dollars;
 use crate::translate::math_len;
 use crate::translate::put_math;
-use crate::translate::read_body;
+use crate::translate::refuses;
 use attribute::DisplayStyle;
 use error::Refusal;
 use parse::ParsedNodes;
+use parse::body::parse;
 use text::has_nul;
 use text::put::put;
 use text::well_formed;
@@ -54,10 +55,13 @@ fn lay_body(
     requires { ⌜ RoomFor (translateBody manner (length (now store)) display (now s)) sure (now out) at × (now table ≡ rows) ⌝ }
     ensures { λ r. ⌜ Lays (translateBody manner (length (now (store .entry))) display (now (s .entry))) (now (out .entry)) (now (out .exit)) at r ⌝ }
 {
-    match read_body(manner, s, store, table) {
+    match parse(s, store, 256, table) {
         ParsedNodes::Refused(r) => Answer::Refused(r),
         ParsedNodes::Nodes(first, count, made) => {
             let dialect = manner.dialect;
+            if refuses(dialect, s) {
+                return Answer::Refused(Refusal::ForbiddenCharacter);
+            }
             let n = count as u32;
             if sure {
                 let end = put_math(dialect, s, display, store, first, n, made, out, at, table);

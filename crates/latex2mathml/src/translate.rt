@@ -24,37 +24,19 @@ ghost use Rattle.text.specs.Put.{Room, Puts};
 ghost use Rattle.text.specs.Xml.{forbidden};
 ghost use Rattle.token.specs.Key.{rows};
 ghost use Rattle.markup.specs.Print.{printAll};
-ghost use Rattle.parse.specs.Body.{BodyAnswers};
 ghost use Rattle.print.specs.Shown.{NodesAt, Printable, Prints};
 ghost use Rattle.print.specs.Measure.{Measurable};
 ghost use Rattle.latex2mathml.specs.Manner.{strict, isStrict};
 ghost use Rattle.latex2mathml.specs.Translate.{inMath};
-ghost use Rattle.latex2mathml.specs.Written.{readNodes, opening, MathLong, Free, Translates};
+ghost use Rattle.latex2mathml.specs.Written.{opening, MathLong, Free, Translates};
 
 // Whether the dialect refuses a body for a character that XML 1.0 forbids.
-fn refuses(dialect: Dialect, s: &[u8]) -> bool
+pub(crate) fn refuses(dialect: Dialect, s: &[u8]) -> bool
     ensures { λ r. ⌜ r ≡ (isStrict dialect && forbidden (now (s .entry))) ⌝ }
 {
     match dialect {
         Dialect::Old => false,
         Dialect::Strict => is_forbidden(s),
-    }
-}
-
-// The nodes of a body in a lent store. The parse is the same in both dialects.
-pub(crate) fn read_body(manner: Manner, s: &[u8], store: &mut [u8], table: &Table) -> ParsedNodes
-    requires { ⌜ now table ≡ rows ⌝ }
-    ensures { λ r. ⌜ BodyAnswers (now (s .entry)) (now (store .exit)) (readNodes manner (now (s .entry)) (length (now (store .entry)))) r ⌝ }
-{
-    match parse(s, store, 256, table) {
-        ParsedNodes::Refused(r) => ParsedNodes::Refused(r),
-        ParsedNodes::Nodes(first, count, made) => {
-            let dialect = manner.dialect;
-            if refuses(dialect, s) {
-                return ParsedNodes::Refused(Refusal::ForbiddenCharacter);
-            }
-            ParsedNodes::Nodes(first, count, made)
-        }
     }
 }
 
@@ -151,10 +133,13 @@ pub fn latex_to_mathml(
         return Answer::Refused(Refusal::NulByte);
     }
     let commands = table();
-    match read_body(manner, s, store, &commands) {
+    match parse(s, store, 256, &commands) {
         ParsedNodes::Refused(r) => Answer::Refused(r),
         ParsedNodes::Nodes(first, count, made) => {
             let dialect = manner.dialect;
+            if refuses(dialect, s) {
+                return Answer::Refused(Refusal::ForbiddenCharacter);
+            }
             let n = count as u32;
             let length = math_len(dialect, s, display, store, made, &commands);
             if out.len() < length {

@@ -3,20 +3,12 @@
 use mathlib.Core.Path.{refl, sym, _∙_}
 use lib.ListN.{length}
 use borrow.Author.Tests.{not-true, not-false}
-use Rattle.latex2mathml.proofs.TranslateLaws.{too-long, ill-formed, nul-byte, body-no, gives-nothing}
+use Rattle.latex2mathml.proofs.TranslateLaws.{too-long, ill-formed, nul-byte, body-no, gives-nothing, read-refused, read-forbidden, read-stored}
 use Rattle.latex2mathml.proofs.BodyLaws.{few-nodes, measurable, able-write, too-large, written}
 use borrow.Author.Needs.{needs}
 use native.Mathlib.Omega.{arith}
 use Rattle.latex2mathml.proofs.translate.latex_to_mathml.Statement.{statement}
 use Rattle.latex2mathml.proofs.translate.latex_to_mathml.Tie as tie
-use Rattle.latex2mathml.proofs.translate.latex_to_mathml.Reads as reads
-use Rattle.latex2mathml.proofs.translate.latex_to_mathml.Lts as lts
-use Rattle.latex2mathml.proofs.translate.math_len.Reads as math-len-reads
-use Rattle.latex2mathml.proofs.translate.put_math.Reads as put-math-reads
-use Rattle.latex2mathml.proofs.translate.read_body.Reads as read-body-reads
-use Rattle.text.proofs.has_nul.Reads as has-nul-reads
-use Rattle.text.proofs.well_formed.Reads as well-formed-reads
-use Rattle.token.proofs.table.table.Reads as table-reads
 
 returns : tie.Need-returns
 returns c =
@@ -42,8 +34,8 @@ returns-3 c =
 table-requires : tie.Need-table-requires
 table-requires c κs = search needs
 
-read-body-requires : tie.Need-read-body-requires
-read-body-requires c κs = (c .before .before .table) .ensures
+parse-requires : tie.Need-parse-requires
+parse-requires c κs = (c .before .before .table) .ensures
 
 enum-known-r : tie.Need-enum-known-r
 enum-known-r c = search needs
@@ -51,51 +43,69 @@ enum-known-r c = search needs
 enum-known-first : tie.Need-enum-known-first
 enum-known-first c = search needs
 
-cast-n : tie.Need-cast-n
-cast-n c =
-    let b = rw ((c .before .first) .given .1) at ((c .before .before .before .before .before .read-body) .ensures) in
-    let f = few-nodes ((c .before .before .before .before .before .before .before .before .before .before .before .before .before .before .before .before .before .args) .manner) (length ((c .before .before .before .before .before .before .before .before .before .before .before .before .before .before .before .before .before .args) .store .now)) b in
-    omega arith
-
-math-len-requires : tie.Need-math-len-requires
-math-len-requires c κs =
-    let b = rw ((c .before .before .before .first) .given .1) at ((c .before .before .before .before .before .before .before .read-body) .ensures) in
-    (measurable ((c .before .before .before .before .before .before .before .before .before .before .before .before .before .before .before .before .before .before .before .args) .manner) (length ((c .before .before .before .before .before .before .before .before .before .before .before .before .before .before .before .before .before .before .before .args) .store .now)) b, (c .before .before .before .before .before .before .before .before .before .before .table) .ensures)
+refuses-requires : tie.Need-refuses-requires
+refuses-requires c κs = search needs
 
 same-length : tie.Need-same-length
 same-length c = search needs
 
 returns-4 : tie.Need-returns-4
 returns-4 c =
-    let b = rw ((c .before .before .before .before .before .first) .given .1) at ((c .before .before .before .before .before .before .before .before .before .read-body) .ensures) in
-    let g = too-large ((c .before .before .before .before .before .before .before .before .before .before .before .before .before .before .before .before .before .before .before .before .before .args) .manner) (length ((c .before .before .before .before .before .before .before .before .before .before .before .before .before .before .before .before .before .before .before .before .before .args) .store .now)) b ((c .before .before .before .before .before .before .before .before .before .before .before .before .before .before .before .before .before .before .before .before .before .args) .display) ((c .before .math-len) .ensures) (sym ((c .before .before .before .before .before .before .before .before .before .before .before .before .before .before .before .before .well-formed) .ensures) ∙ not-false _ ((c .before .before .before .before .before .before .before .before .before .before .before .before .before .before .before .if2) .left)) (sym ((c .before .before .before .before .before .before .before .before .before .before .before .before .before .before .has-nul) .ensures) ∙ (c .before .before .before .before .before .before .before .before .before .before .before .before .before .if3) .left) ((c .if4) .taken) in
-    (g, (c .before .before .before .before .before .before .before .before .before .read-body) .kept .1 .1 .0)
+    let p = rw ((c .before .before .before .first) .given .1) at ((c .before .before .before .before .before .before .before .parse) .ensures) in
+    let b = read-forbidden ((c .before .before .before .before .before .before .before .before .before .before .before .before .before .before .before .before .before .before .before .args) .manner) ((c .before .before .before .before .before .before .before .before .before .before .before .before .before .before .before .before .before .before .before .args) .s .now) (length ((c .before .before .before .before .before .before .before .before .before .before .before .before .before .before .before .before .before .before .before .args) .store .now)) p (sym ((c .before .refuses) .ensures) ∙ (c .if4) .taken) in
+    let g = gives-nothing ((c .before .before .before .before .before .before .before .before .before .before .before .before .before .before .before .before .before .before .before .args) .out .now) (body-no ((c .before .before .before .before .before .before .before .before .before .before .before .before .before .before .before .before .before .before .before .args) .manner) ((c .before .before .before .before .before .before .before .before .before .before .before .before .before .before .before .before .before .before .before .args) .s .now) ((c .before .before .before .before .before .before .before .before .before .before .before .before .before .before .before .before .before .before .before .args) .display) (length ((c .before .before .before .before .before .before .before .before .before .before .before .before .before .before .before .before .before .before .before .args) .store .now)) (length ((c .before .before .before .before .before .before .before .before .before .before .before .before .before .before .before .before .before .before .before .args) .out .now)) ((c .before .before .before .before .before .before .before .before .before .before .before .before .before .before .before .if1) .left) (sym ((c .before .before .before .before .before .before .before .before .before .before .before .before .before .before .well-formed) .ensures) ∙ not-false _ ((c .before .before .before .before .before .before .before .before .before .before .before .before .before .if2) .left)) (sym ((c .before .before .before .before .before .before .before .before .before .before .before .before .has-nul) .ensures) ∙ (c .before .before .before .before .before .before .before .before .before .before .before .if3) .left) b) in
+    (g, (c .before .before .before .before .before .before .before .parse) .kept .1 .0)
 
-put-math-requires : tie.Need-put-math-requires
-put-math-requires c κs =
-    let b = rw ((c .before .before .before .before .before .before .before .before .first) .given .1) at ((c .before .before .before .before .before .before .before .before .before .before .before .before .read-body) .ensures) in
-    (able-write ((c .before .before .before .before .before .before .before .before .before .before .before .before .before .before .before .before .before .before .before .before .before .before .before .before .args) .manner) (length ((c .before .before .before .before .before .before .before .before .before .before .before .before .before .before .before .before .before .before .before .before .before .before .before .before .args) .store .now)) b ((c .before .before .before .before .before .before .before .before .before .before .before .before .before .before .before .before .before .before .before .before .before .before .before .before .args) .display) ((c .before .before .before .before .math-len) .ensures) ((c .before .before .before .before .before .before .before .before .before .before .before .before .before .before .before .before .before .before .before .before .before .before .before .before .args) .out .now) ((c .before .before .before .if4) .left), (c .before .before .before .before .before .before .before .before .before .before .before .before .before .before .before .table) .ensures)
+cast-n : tie.Need-cast-n
+cast-n c =
+    let p = rw ((c .before .before .before .first) .given .1) at ((c .before .before .before .before .before .before .before .parse) .ensures) in
+    let b = read-stored ((c .before .before .before .before .before .before .before .before .before .before .before .before .before .before .before .before .before .before .before .args) .manner) ((c .before .before .before .before .before .before .before .before .before .before .before .before .before .before .before .before .before .before .before .args) .s .now) (length ((c .before .before .before .before .before .before .before .before .before .before .before .before .before .before .before .before .before .before .before .args) .store .now)) p (sym ((c .before .refuses) .ensures) ∙ (c .if4) .left) in
+    let f = few-nodes ((c .before .before .before .before .before .before .before .before .before .before .before .before .before .before .before .before .before .before .before .args) .manner) (length ((c .before .before .before .before .before .before .before .before .before .before .before .before .before .before .before .before .before .before .before .args) .store .now)) b in
+    omega arith
+
+math-len-requires : tie.Need-math-len-requires
+math-len-requires c κs =
+    let p = rw ((c .before .before .before .before .before .first) .given .1) at ((c .before .before .before .before .before .before .before .before .before .parse) .ensures) in
+    let b = read-stored ((c .before .before .before .before .before .before .before .before .before .before .before .before .before .before .before .before .before .before .before .before .before .args) .manner) ((c .before .before .before .before .before .before .before .before .before .before .before .before .before .before .before .before .before .before .before .before .before .args) .s .now) (length ((c .before .before .before .before .before .before .before .before .before .before .before .before .before .before .before .before .before .before .before .before .before .args) .store .now)) p (sym ((c .before .before .before .refuses) .ensures) ∙ (c .before .before .if4) .left) in
+    (measurable ((c .before .before .before .before .before .before .before .before .before .before .before .before .before .before .before .before .before .before .before .before .before .args) .manner) (length ((c .before .before .before .before .before .before .before .before .before .before .before .before .before .before .before .before .before .before .before .before .before .args) .store .now)) b, (c .before .before .before .before .before .before .before .before .before .before .before .before .table) .ensures)
 
 same-length-2 : tie.Need-same-length-2
 same-length-2 c = search needs
 
 returns-5 : tie.Need-returns-5
 returns-5 c =
-    let b = rw ((c .before .r) .given .1) at ((c .before .before .before .before .before .read-body) .ensures) in
-    let g = gives-nothing ((c .before .before .before .before .before .before .before .before .before .before .before .before .before .before .before .before .before .args) .out .now) (body-no ((c .before .before .before .before .before .before .before .before .before .before .before .before .before .before .before .before .before .args) .manner) ((c .before .before .before .before .before .before .before .before .before .before .before .before .before .before .before .before .before .args) .s .now) ((c .before .before .before .before .before .before .before .before .before .before .before .before .before .before .before .before .before .args) .display) (length ((c .before .before .before .before .before .before .before .before .before .before .before .before .before .before .before .before .before .args) .store .now)) (length ((c .before .before .before .before .before .before .before .before .before .before .before .before .before .before .before .before .before .args) .out .now)) ((c .before .before .before .before .before .before .before .before .before .before .before .before .before .if1) .left) (sym ((c .before .before .before .before .before .before .before .before .before .before .before .before .well-formed) .ensures) ∙ not-false _ ((c .before .before .before .before .before .before .before .before .before .before .before .if2) .left)) (sym ((c .before .before .before .before .before .before .before .before .before .before .has-nul) .ensures) ∙ (c .before .before .before .before .before .before .before .before .before .if3) .left) b) in
-    (g, (c .before .before .before .before .before .read-body) .kept .1 .1 .0)
+    let p = rw ((c .before .before .before .before .before .before .before .first) .given .1) at ((c .before .before .before .before .before .before .before .before .before .before .before .parse) .ensures) in
+    let b = read-stored ((c .before .before .before .before .before .before .before .before .before .before .before .before .before .before .before .before .before .before .before .before .before .before .before .args) .manner) ((c .before .before .before .before .before .before .before .before .before .before .before .before .before .before .before .before .before .before .before .before .before .before .before .args) .s .now) (length ((c .before .before .before .before .before .before .before .before .before .before .before .before .before .before .before .before .before .before .before .before .before .before .before .args) .store .now)) p (sym ((c .before .before .before .before .before .refuses) .ensures) ∙ (c .before .before .before .before .if4) .left) in
+    let g = too-large ((c .before .before .before .before .before .before .before .before .before .before .before .before .before .before .before .before .before .before .before .before .before .before .before .args) .manner) (length ((c .before .before .before .before .before .before .before .before .before .before .before .before .before .before .before .before .before .before .before .before .before .before .before .args) .store .now)) b ((c .before .before .before .before .before .before .before .before .before .before .before .before .before .before .before .before .before .before .before .before .before .before .before .args) .display) ((c .before .math-len) .ensures) (sym ((c .before .before .before .before .before .before .before .before .before .before .before .before .before .before .before .before .before .before .well-formed) .ensures) ∙ not-false _ ((c .before .before .before .before .before .before .before .before .before .before .before .before .before .before .before .before .before .if2) .left)) (sym ((c .before .before .before .before .before .before .before .before .before .before .before .before .before .before .before .before .has-nul) .ensures) ∙ (c .before .before .before .before .before .before .before .before .before .before .before .before .before .before .before .if3) .left) ((c .if5) .taken) in
+    (g, (c .before .before .before .before .before .before .before .before .before .before .before .parse) .kept .1 .0)
+
+put-math-requires : tie.Need-put-math-requires
+put-math-requires c κs =
+    let p = rw ((c .before .before .before .before .before .before .before .before .before .before .first) .given .1) at ((c .before .before .before .before .before .before .before .before .before .before .before .before .before .before .parse) .ensures) in
+    let b = read-stored ((c .before .before .before .before .before .before .before .before .before .before .before .before .before .before .before .before .before .before .before .before .before .before .before .before .before .before .args) .manner) ((c .before .before .before .before .before .before .before .before .before .before .before .before .before .before .before .before .before .before .before .before .before .before .before .before .before .before .args) .s .now) (length ((c .before .before .before .before .before .before .before .before .before .before .before .before .before .before .before .before .before .before .before .before .before .before .before .before .before .before .args) .store .now)) p (sym ((c .before .before .before .before .before .before .before .before .refuses) .ensures) ∙ (c .before .before .before .before .before .before .before .if4) .left) in
+    (able-write ((c .before .before .before .before .before .before .before .before .before .before .before .before .before .before .before .before .before .before .before .before .before .before .before .before .before .before .args) .manner) (length ((c .before .before .before .before .before .before .before .before .before .before .before .before .before .before .before .before .before .before .before .before .before .before .before .before .before .before .args) .store .now)) b ((c .before .before .before .before .before .before .before .before .before .before .before .before .before .before .before .before .before .before .before .before .before .before .before .before .before .before .args) .display) ((c .before .before .before .before .math-len) .ensures) ((c .before .before .before .before .before .before .before .before .before .before .before .before .before .before .before .before .before .before .before .before .before .before .before .before .before .before .args) .out .now) ((c .before .before .before .if5) .left), (c .before .before .before .before .before .before .before .before .before .before .before .before .before .before .before .before .before .table) .ensures)
 
 same-length-3 : tie.Need-same-length-3
 same-length-3 c = search needs
 
+returns-6 : tie.Need-returns-6
+returns-6 c =
+    let b = read-refused ((c .before .before .before .before .before .before .before .before .before .before .before .before .before .before .before .before .before .args) .manner) ((c .before .before .before .before .before .before .before .before .before .before .before .before .before .before .before .before .before .args) .s .now) (length ((c .before .before .before .before .before .before .before .before .before .before .before .before .before .before .before .before .before .args) .store .now)) (rw ((c .before .r) .given .1) at ((c .before .before .before .before .before .parse) .ensures)) in
+    let g = gives-nothing ((c .before .before .before .before .before .before .before .before .before .before .before .before .before .before .before .before .before .args) .out .now) (body-no ((c .before .before .before .before .before .before .before .before .before .before .before .before .before .before .before .before .before .args) .manner) ((c .before .before .before .before .before .before .before .before .before .before .before .before .before .before .before .before .before .args) .s .now) ((c .before .before .before .before .before .before .before .before .before .before .before .before .before .before .before .before .before .args) .display) (length ((c .before .before .before .before .before .before .before .before .before .before .before .before .before .before .before .before .before .args) .store .now)) (length ((c .before .before .before .before .before .before .before .before .before .before .before .before .before .before .before .before .before .args) .out .now)) ((c .before .before .before .before .before .before .before .before .before .before .before .before .before .if1) .left) (sym ((c .before .before .before .before .before .before .before .before .before .before .before .before .well-formed) .ensures) ∙ not-false _ ((c .before .before .before .before .before .before .before .before .before .before .before .if2) .left)) (sym ((c .before .before .before .before .before .before .before .before .before .before .has-nul) .ensures) ∙ (c .before .before .before .before .before .before .before .before .before .if3) .left) b) in
+    (g, (c .before .before .before .before .before .parse) .kept .1 .0)
+
 same-length-4 : tie.Need-same-length-4
 same-length-4 c = search needs
 
-returns-6 : tie.Need-returns-6
-returns-6 c =
-    let b = rw ((c .before .before .before .before .before .before .before .before .before .before .before .first) .given .1) at ((c .before .before .before .before .before .before .before .before .before .before .before .before .before .before .before .read-body) .ensures) in
-    let g = written ((c .before .before .before .before .before .before .before .before .before .before .before .before .before .before .before .before .before .before .before .before .before .before .before .before .before .before .before .args) .manner) (length ((c .before .before .before .before .before .before .before .before .before .before .before .before .before .before .before .before .before .before .before .before .before .before .before .before .before .before .before .args) .store .now)) b ((c .before .before .before .before .before .before .before .before .before .before .before .before .before .before .before .before .before .before .before .before .before .before .before .before .before .before .before .args) .display) ((c .before .before .before .before .before .before .before .math-len) .ensures) (sym ((c .before .before .before .before .before .before .before .before .before .before .before .before .before .before .before .before .before .before .before .before .before .before .well-formed) .ensures) ∙ not-false _ ((c .before .before .before .before .before .before .before .before .before .before .before .before .before .before .before .before .before .before .before .before .before .if2) .left)) (sym ((c .before .before .before .before .before .before .before .before .before .before .before .before .before .before .before .before .before .before .before .before .has-nul) .ensures) ∙ (c .before .before .before .before .before .before .before .before .before .before .before .before .before .before .before .before .before .before .before .if3) .left) ((c .before .before .before .before .before .before .if4) .left) ((c .before .before .put-math) .ensures) in
-    (g, (c .before .before .before .before .before .before .before .before .before .before .before .before .before .before .before .read-body) .kept .1 .1 .0)
+same-length-5 : tie.Need-same-length-5
+same-length-5 c = search needs
+
+returns-7 : tie.Need-returns-7
+returns-7 c =
+    let p = rw ((c .before .before .before .before .before .before .before .before .before .before .before .before .before .first) .given .1) at ((c .before .before .before .before .before .before .before .before .before .before .before .before .before .before .before .before .before .parse) .ensures) in
+    let b = read-stored ((c .before .before .before .before .before .before .before .before .before .before .before .before .before .before .before .before .before .before .before .before .before .before .before .before .before .before .before .before .before .args) .manner) ((c .before .before .before .before .before .before .before .before .before .before .before .before .before .before .before .before .before .before .before .before .before .before .before .before .before .before .before .before .before .args) .s .now) (length ((c .before .before .before .before .before .before .before .before .before .before .before .before .before .before .before .before .before .before .before .before .before .before .before .before .before .before .before .before .before .args) .store .now)) p (sym ((c .before .before .before .before .before .before .before .before .before .before .before .refuses) .ensures) ∙ (c .before .before .before .before .before .before .before .before .before .before .if4) .left) in
+    let g = written ((c .before .before .before .before .before .before .before .before .before .before .before .before .before .before .before .before .before .before .before .before .before .before .before .before .before .before .before .before .before .args) .manner) (length ((c .before .before .before .before .before .before .before .before .before .before .before .before .before .before .before .before .before .before .before .before .before .before .before .before .before .before .before .before .before .args) .store .now)) b ((c .before .before .before .before .before .before .before .before .before .before .before .before .before .before .before .before .before .before .before .before .before .before .before .before .before .before .before .before .before .args) .display) ((c .before .before .before .before .before .before .before .math-len) .ensures) (sym ((c .before .before .before .before .before .before .before .before .before .before .before .before .before .before .before .before .before .before .before .before .before .before .before .before .well-formed) .ensures) ∙ not-false _ ((c .before .before .before .before .before .before .before .before .before .before .before .before .before .before .before .before .before .before .before .before .before .before .before .if2) .left)) (sym ((c .before .before .before .before .before .before .before .before .before .before .before .before .before .before .before .before .before .before .before .before .before .before .has-nul) .ensures) ∙ (c .before .before .before .before .before .before .before .before .before .before .before .before .before .before .before .before .before .before .before .before .before .if3) .left) ((c .before .before .before .before .before .before .if5) .left) ((c .before .before .put-math) .ensures) in
+    (g, (c .before .before .before .before .before .before .before .before .before .before .before .before .before .before .before .before .before .parse) .kept .1 .0)
 
 pub latex-to-mathml-spec : {M : Type 1} → statement M
 latex-to-mathml-spec =
@@ -107,16 +117,19 @@ latex-to-mathml-spec =
     has-nul-requires
     returns-3
     table-requires
-    read-body-requires
+    parse-requires
     enum-known-r
     enum-known-first
-    cast-n
-    math-len-requires
+    refuses-requires
     same-length
     returns-4
-    put-math-requires
+    cast-n
+    math-len-requires
     same-length-2
     returns-5
+    put-math-requires
     same-length-3
+    returns-6
     same-length-4
-    returns-6)
+    same-length-5
+    returns-7)
