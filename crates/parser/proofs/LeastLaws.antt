@@ -16,7 +16,7 @@ use borrow.Author.Tests.{leb-true, not-true}
 use Rattle.text.specs.Utf8.{codePoint}
 use Rattle.text.proofs.Cases.{by-test, by-order, both}
 use Rattle.text.proofs.Keys.{among}
-use Rattle.text.proofs.Utf8Laws.{every, width-some, ascii-point, high-point}
+use Rattle.text.proofs.Utf8Laws.{every, width-some}
 use Rattle.token.specs.declared.Token.{Token}
 use Rattle.token.specs.declared.Token.the-variants.{EOF, Begin, End, Ampersand, NewLine, Left, Right, Middle, Paren, LBrace, RBrace, Frac, Underscore, Circumflex, Binom, Overset, Underset, Overbrace, Underbrace, Sqrt, Integral, Lim, Space, Style, Big, Over, Under, Operator, BigOp, Letter, Number, Function, OperatorName, Slashed, Text, Command}
 use Rattle.token.specs.Spell.{Arm, spells, first}
@@ -27,6 +27,7 @@ use Rattle.lexer.specs.Lex.{isDigit, skipWhitespace, readNumber, nameLength, re
 use Rattle.lexer.proofs.NextLaws.{next-read, token-spans, next-spans}
 use Rattle.parser.specs.State.{startsWithDigit, following}
 use Rattle.parser.specs.Sound.{least, TokenInside, Lies}
+use Rattle.parser.proofs.DigitLaws.{digit-head}
 
 -- ---- a token that carries no place and takes no more than w bytes at least
 
@@ -157,15 +158,9 @@ end-wide n (L._∷_ b l) =
 
 -- so a number has a byte or more
 number-some : (l : List ℕ) → isDigit (codePoint l .code) ≡ true → 1 ≤ readNumber false l
-unfolding readNumber codePoint
+unfolding readNumber startsWithDigit codePoint
 number-some L.[] e = absurd (false≢true e)
-number-some (L._∷_ b l) e =
-    by-order b 128
-    (λ h. let d : isDigit b ≡ true = rw (ascii-point b l h) at e in rw (readNumber, d) (omega arith))
-    (λ h.
-    let high = high-point b l h in
-    let d = and-eq-true-iff (leb 48 (codePoint (L._∷_ b l) .code)) (leb (codePoint (L._∷_ b l) .code) 57) .0 e in
-    absurd (omega (arith, leb-true (codePoint (L._∷_ b l) .code) 57 (d .1))))
+number-some (L._∷_ b l) e = let digit = digit-head (L._∷_ b l) e in rw (readNumber, digit) (omega arith)
 
 -- ---- the token at a place, the one behind whitespace, and the one behind a token
 

@@ -7,5 +7,6 @@ pub mod BodyLaws
 pub mod FitLaws
 pub mod MarkLaws
 pub mod TextLaws
+pub mod DigitLaws
 pub mod EnvironmentLaws
 pub mod MakeLaws

@@ -8,19 +8,18 @@ use attribute::ColumnAlign;
 use error::Refusal;
 use lexer::Lexeme;
 use lexer::is_alphabetic;
-use lexer::is_digit;
 use lexer::reader::token_from;
 use token::Binomial;
 use token::Mark;
 use token::Token;
 use token::table::Table;
 ghost use mathlib.Core.Path.{_≡_};
-ghost use mathlib.Core.Bool.{_&&_};
+ghost use mathlib.Core.Bool.{true};
 ghost use Prim.Native.Nat.{_≤_};
 ghost use lib.ListN.{length, drop};
 ghost use Rattle.token.specs.Key.{rows};
 ghost use Rattle.token.specs.Command.{actsOnADigit};
-ghost use Rattle.parser.specs.State.{startsWithDigit, following, next, new, curIs, peekIs, parseText, PastLetters};
+ghost use Rattle.parser.specs.State.{following, next, new, curIs, peekIs, parseText, PastLetters};
 ghost use Rattle.parser.specs.Sound.{Sound};
 
 // The Rust's `Parser`, by value: the lexer stands at the end of `peek`, and `made` counts the records.
@@ -76,18 +75,27 @@ pub enum Environment {
     Between(u32, u32),
 }
 
-// Whether a token acts on a digit and one stands at a place.
-fn takes_digit(t: Token, s: &[u8], at: usize) -> bool
-    requires { ⌜ at ≤ length (now s) ⌝ }
-    ensures { λ r. ⌜ r ≡ (actsOnADigit t && startsWithDigit (drop at (now (s .entry)))) ⌝ }
+// The token from a place on; of a number that begins at the place itself, and not behind whitespace, the first digit alone.
+fn digit_or_token(s: &[u8], at: usize, table: &Table) -> Lexeme
+    requires { ⌜ (at ≤ length (now s)) × (now table ≡ rows) ⌝ }
+    ensures { λ r. ⌜ ((t : Token) → actsOnADigit t ≡ true → r ≡ following t at (drop at (now (s .entry)))) ⌝ }
 {
-    if t.acts_on_a_digit() {
-        if at < s.len() {
-            return is_digit(s[at]);
+    let next = token_from(s, at, table);
+    let token = next.token;
+    match token {
+        Token::Number(begin, _) => {
+            if begin == at {
+                let end = begin + 1;
+                return Lexeme {
+                    token: Token::Number(begin, end),
+                    start: begin,
+                    end,
+                };
+            }
+            next
         }
-        return false;
+        _ => next,
     }
-    false
 }
 
 // The token behind t, which ends at a place: a digit directly behind a token that acts on it is a number.
@@ -95,12 +103,8 @@ fn following(t: Token, s: &[u8], at: usize, table: &Table) -> Lexeme
     requires { ⌜ (at ≤ length (now s)) × (now table ≡ rows) ⌝ }
     ensures { λ r. ⌜ r ≡ following t at (drop at (now (s .entry))) ⌝ }
 {
-    if takes_digit(t, s, at) {
-        return Lexeme {
-            token: Token::Number(at, at + 1),
-            start: at,
-            end: at + 1,
-        };
+    if t.acts_on_a_digit() {
+        return digit_or_token(s, at, table);
     }
     token_from(s, at, table)
 }
