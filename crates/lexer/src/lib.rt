@@ -38,7 +38,7 @@ fn is_whitespace(b: u8) -> bool
     }
 }
 
-pub fn is_digit(b: u8) -> bool
+fn is_digit(b: u8) -> bool
     ensures { λ r. ⌜ r ≡ isDigit b ⌝ }
 {
     match b {

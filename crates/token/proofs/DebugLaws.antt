@@ -1,7 +1,7 @@
 -- Escapes go byte by byte, a graphic character stands as itself, and of a text escaped twice a dialect changes only what XML reads as markup.
 -- Assumes nothing.
 use mathlib.Core.Path.{_≡_, refl, sym, ap, _∙_}
-use mathlib.Core.Bool.{true, false}
+use mathlib.Core.Bool.{Bool, true, false}
 use mathlib.Core.Logic.{inl, inr}
 use mathlib.Core.List.{List, [], _∷_, _++_, append-assoc}
 use Prim.Native.Nat.{ℕ, _+_, _/_, _%_, _≤_, _<_}
@@ -11,13 +11,14 @@ use borrow.Author.Tests.{le-ltb, ne-eqb}
 use types.Run.{OneOf}
 use Rattle.text.specs.declared.Dialect.{Dialect}
 use Rattle.text.specs.Utf8.{encode}
-use Rattle.text.specs.Put.{digits, unpacked}
+use Rattle.text.specs.Put.{Room, Puts, digits, unpacked}
 use Rattle.text.specs.Xml.{xmlEscape, xmlText, inText, Reference}
 use Rattle.text.specs.Examples.{text-opens}
 use Rattle.text.specs.Text.{bytes, part}
 use Rattle.text.proofs.Cases.{never}
 use Rattle.text.proofs.Keys.{among, outside}
 use Rattle.text.proofs.PartLaws.{part-none, part-cons}
+use Rattle.text.proofs.PutLaws.{room-as, puts-as}
 use Rattle.text.proofs.Tabled.{tab, each}
 use Rattle.text.proofs.XmlLaws.{text-append, same-text}
 use Rattle.token.specs.declared.Undefined.{Undefined}
@@ -110,6 +111,14 @@ twice-part d s i e less inside =
 pub twice-none : (d : Dialect) (s : List ℕ) (i e : ℕ) → e ≤ i → inText d (escape (escape (part i e s))) ≡ []
 unfolding escape xmlText
 twice-none d s i e h = rw (part-none s i e h) (same-text d [] refl)
+
+-- the Debug text of a token that carries no name, which no dialect changes
+module _ {write : Bool} {o : List ℕ} {at : ℕ} (d : Dialect) (s : List ℕ) {u v : Undefined} (is : u ≡ v) (same : xmlText (escape (debug s v)) ≡ escape (debug s v)) where
+  pub fixed-room : Room write o at (length (inText d (escape (debug s u)))) → Room write o at (length (escape (debug s v)))
+  fixed-room room = room-as (same-text d (escape (debug s v)) same) (rw is at room)
+
+  pub fixed-put : {o′ : List ℕ} {r : ℕ} → Puts write o o′ at (escape (debug s v)) r → Puts write o o′ at (inText d (escape (debug s u))) r
+  fixed-put p = rw is (puts-as (same-text d (escape (debug s v)) same) p)
 
 -- the name of a command
 pub name-none : (s : List ℕ) (a e : ℕ) → a ≡ e → commandName s a e ≡ 0 ∷ []

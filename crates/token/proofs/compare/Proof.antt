@@ -20,26 +20,11 @@ Inv-loop at first s a e table n k₀ k =
 abbrev μ-loop : tie.MeasureT-loop
 μ-loop at first s a e table n k₀ k = n - k
 
-sub-n : tie.Need-sub-n Inv-loop μ-loop
-sub-n c = omega arith
-
-add-n : tie.Need-add-n Inv-loop μ-loop
-add-n c = omega arith
-
 loop-holds : tie.Need-loop-holds Inv-loop μ-loop
 loop-holds c =
     let p = (c .before .args) in
     let size = part-length (now (p .s)) (p .a) (p .e) ((c .before .pre) .1) ((c .before .pre) .2) in
     (omega arith, refl, λ i row. (omega arith, ap (cmp (key i)) (words-all (part (p .a) (p .e) (now (p .s))) _ (rw size))))
-
-add-x : tie.Need-add-x Inv-loop μ-loop
-add-x c = omega (arith, word-inside (c .before .before .before .pre .0) (c .before .loop .inv .2))
-
-mul-x : tie.Need-mul-x Inv-loop μ-loop
-mul-x c = omega (arith, word-inside (c .before .before .before .pre .0) (c .before .loop .inv .2))
-
-element-copy-out-x : tie.Need-element-copy-out-x Inv-loop μ-loop
-element-copy-out-x c = omega (arith, word-inside (c .before .before .before .pre .0) (c .before .loop .inv .2))
 
 returns : tie.Need-returns Inv-loop μ-loop
 returns c =
@@ -60,12 +45,6 @@ returns-3 c =
     λ i row. let v = (c .before .before .before .before .before .before .loop) .inv .2 i row in
     sym (v .1 ∙ decides ((c .before .before .before .before .before .before .before .before .pre) .4) row ((c .before .before .before .before .before .before .loop) .k) (v .0) (part ((c .before .before .before .before .before .before .before .before .args) .a) ((c .before .before .before .before .before .before .before .before .args) .e) (now ((c .before .before .before .before .before .before .before .before .args) .s))) _ ((c .before .before .before .before .before .loop-test) .taken) ((c .before .before .before .if1) .left) _ ((c .before .before .word) .ensures) ∙ step-greater _ _ _ ((c .if3) .taken))
 
-add-k : tie.Need-add-k Inv-loop μ-loop
-add-k c = omega arith
-
-loop-less : tie.Need-loop-less Inv-loop μ-loop
-loop-less c = omega arith
-
 loop-again : tie.Need-loop-again Inv-loop μ-loop
 loop-again c =
     let same : getD (now ((c .before .before .before .before .before .before .before .before .args) .table)) ((c .before .before .before .before .before .before .before .before .args) .at + (c .before .before .before .before .before .before .loop) .k) 0 ≡ (c .before .before .word) .result = omega arith in (
@@ -74,15 +53,6 @@ loop-again c =
       λ i row. let v = (c .before .before .before .before .before .before .loop) .inv .2 i row in
           (row-goes ((c .before .before .before .before .before .before .before .before .pre) .4) row ((c .before .before .before .before .before .before .loop) .k) (v .0) ((c .before .before .before .if1) .left), v .1 ∙ decides ((c .before .before .before .before .before .before .before .before .pre) .4) row ((c .before .before .before .before .before .before .loop) .k) (v .0) (part ((c .before .before .before .before .before .before .before .before .args) .a) ((c .before .before .before .before .before .before .before .before .args) .e) (now ((c .before .before .before .before .before .before .before .before .args) .s))) _ ((c .before .before .before .before .before .loop-test) .taken) ((c .before .before .before .if1) .left) _ ((c .before .before .word) .ensures) ∙ step-equal _ _ _ same),
     )
-
-add-if4 : tie.Need-add-if4 Inv-loop μ-loop
-add-if4 c = omega (arith, word-inside (c .before .before .before .pre .0) (c .before .loop .inv .2))
-
-mul-if4 : tie.Need-mul-if4 Inv-loop μ-loop
-mul-if4 c = omega (arith, word-inside (c .before .before .before .pre .0) (c .before .loop .inv .2))
-
-element-copy-out-if4 : tie.Need-element-copy-out-if4 Inv-loop μ-loop
-element-copy-out-if4 c = omega (arith, word-inside (c .before .before .before .pre .0) (c .before .loop .inv .2))
 
 returns-4 : tie.Need-returns-4 Inv-loop μ-loop
 returns-4 c =
@@ -102,21 +72,21 @@ compare-spec =
     (tie.spec
     Inv-loop
     μ-loop
-    sub-n
-    add-n
+    (λ c. omega arith)
+    (λ c. omega arith)
     loop-holds
-    add-x
-    mul-x
-    element-copy-out-x
+    (λ c. omega (arith, word-inside (c .before .before .before .pre .0) (c .before .loop .inv .2)))
+    (λ c. omega (arith, word-inside (c .before .before .before .pre .0) (c .before .loop .inv .2)))
+    (λ c. omega (arith, word-inside (c .before .before .before .pre .0) (c .before .loop .inv .2)))
     returns
     word-requires
     returns-2
     returns-3
-    add-k
-    loop-less
+    (λ c. omega arith)
+    (λ c. omega arith)
     loop-again
-    add-if4
-    mul-if4
-    element-copy-out-if4
+    (λ c. omega (arith, word-inside (c .before .before .before .pre .0) (c .before .loop .inv .2)))
+    (λ c. omega (arith, word-inside (c .before .before .before .pre .0) (c .before .loop .inv .2)))
+    (λ c. omega (arith, word-inside (c .before .before .before .pre .0) (c .before .loop .inv .2)))
     returns-4
     returns-5)

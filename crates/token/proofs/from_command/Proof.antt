@@ -21,31 +21,10 @@ returns c =
     let p = (c .before .before .args) in
     sym (unnamed (part (p .a) (p .e) (now (p .s))) _ (empty-part (now (p .s)) (p .a) (p .e) ((c .before .before .pre) .0) ((c .before .before .pre) .1) ((c .if1) .taken)))
 
-sub-if2 : tie.Need-sub-if2
-sub-if2 c = search needs
-
-shared-slice-read-if2 : tie.Need-shared-slice-read-if2
-shared-slice-read-if2 c = search needs
-
 returns-2 : tie.Need-returns-2
 returns-2 c =
     let p = (c .before .before .before .before .args) in
     sym (unnamed (part (p .a) (p .e) (now (p .s))) _ (zero-part (now (p .s)) (p .a) (p .e) ((c .before .before .before .before .pre) .0) ((c .before .before .before .before .pre) .1) ((c .before .before .if1) .left) ((c .if2) .taken)))
-
-search-requires : tie.Need-search-requires
-search-requires c κs = search needs
-
-sub-token-of : tie.Need-sub-token-of
-sub-token-of c = search needs
-
-add-token-of : tie.Need-add-token-of
-add-token-of c = search needs
-
-add-token-of-2 : tie.Need-add-token-of-2
-add-token-of-2 c = search needs
-
-mul-token-of : tie.Need-mul-token-of
-mul-token-of c = search needs
 
 element-copy-out-token-of : tie.Need-element-copy-out-token-of
 element-copy-out-token-of c =
@@ -55,9 +34,6 @@ element-copy-out-token-of c =
     let size = ap length (f .2) ∙ words-length (part (p .a) (p .e) (now (p .s))) in
     let inside = row-inside (f .1) (length (key (f .0))) (omega arith) in
     omega arith
-
-token-of-requires : tie.Need-token-of-requires
-token-of-requires c κs = search needs
 
 returns-3 : tie.Need-returns-3
 returns-3 c =
@@ -85,15 +61,15 @@ from-command-spec =
     tie.close
     (tie.spec
     returns
-    sub-if2
-    shared-slice-read-if2
+    (λ c. search needs)
+    (λ c. search needs)
     returns-2
-    search-requires
-    sub-token-of
-    add-token-of
-    add-token-of-2
-    mul-token-of
+    (λ c κs. search needs)
+    (λ c. search needs)
+    (λ c. search needs)
+    (λ c. search needs)
+    (λ c. search needs)
     element-copy-out-token-of
-    token-of-requires
+    (λ c κs. search needs)
     returns-3
     returns-4)

@@ -22,18 +22,9 @@ Inv-loop s a e table first lo₀ hi₀ lo hi =
 abbrev μ-loop : tie.MeasureT-loop
 μ-loop s a e table first lo₀ hi₀ lo hi = hi - lo
 
-pack-requires : tie.Need-pack-requires Inv-loop μ-loop
-pack-requires c κs = omega arith
-
 loop-holds : tie.Need-loop-holds Inv-loop μ-loop
 loop-holds c =
     (omega arith, (λ i h l. absurd (omega arith)), (λ i h l. absurd (omega (arith, table-length, start-last, start-less i size h (omega arith)))))
-
-sub-mid : tie.Need-sub-mid Inv-loop μ-loop
-sub-mid c = omega arith
-
-add-mid : tie.Need-add-mid Inv-loop μ-loop
-add-mid c = omega arith
 
 row-of-requires : tie.Need-row-of-requires Inv-loop μ-loop
 row-of-requires c κs = (omega (arith, table-length), (c .before .before .before .before .pre) .2)
@@ -42,32 +33,17 @@ compare-requires : tie.Need-compare-requires Inv-loop μ-loop
 compare-requires c κs =
     (((c .row-of) .ensures .0, (c .row-of) .ensures .1 .row), (c .before .before .before .before .before .pre) .0, (c .before .before .before .before .before .pre) .1, (c .before .before .before .pack) .ensures, (c .before .before .before .before .before .pre) .2)
 
-enum-told : tie.Need-enum-told Inv-loop μ-loop
-enum-told c = search needs
-
-add-lo : tie.Need-add-lo Inv-loop μ-loop
-add-lo c = omega arith
-
-loop-less : tie.Need-loop-less Inv-loop μ-loop
-loop-less c = omega arith
-
 loop-again : tie.Need-loop-again Inv-loop μ-loop
 loop-again c =
     let has = (c .before .before .before .row-of) .ensures .1 in
     let here = sym ((c .before .before .compare) .ensures ((c .before .before .before .row-of) .ensures .0) (has .row)) ∙ (c .enum-told) .given .1 in
     (omega arith, (λ i h l. all-less key size rising _ ((c .before .before .before .row-of) .ensures .0) (has .row .inside) here i (first-rows has i h (omega arith))), (c .before .before .before .before .before .loop) .inv .2)
 
-enum-told-2 : tie.Need-enum-told-2 Inv-loop μ-loop
-enum-told-2 c = search needs
-
 returns : tie.Need-returns Inv-loop μ-loop
 returns c =
     let has = (c .before .before .before .row-of) .ensures .1 in
     let here = sym ((c .before .before .compare) .ensures ((c .before .before .before .row-of) .ensures .0) (has .row)) ∙ (c .enum-told2) .given .1 in
     record { found = λ l. ((c .before .before .before .row-of) .ensures .0, has .row, cmp-equal _ _ here); none = λ l. absurd (omega (arith, table-length, has .from)) }
-
-enum-told-3 : tie.Need-enum-told-3 Inv-loop μ-loop
-enum-told-3 c = search needs
 
 loop-less-2 : tie.Need-loop-less-2 Inv-loop μ-loop
 loop-less-2 c =
@@ -93,19 +69,19 @@ search-spec =
     (tie.spec
     Inv-loop
     μ-loop
-    pack-requires
+    (λ c κs. omega arith)
     loop-holds
-    sub-mid
-    add-mid
+    (λ c. omega arith)
+    (λ c. omega arith)
     row-of-requires
     compare-requires
-    enum-told
-    add-lo
-    loop-less
+    (λ c. search needs)
+    (λ c. omega arith)
+    (λ c. omega arith)
     loop-again
-    enum-told-2
+    (λ c. search needs)
     returns
-    enum-told-3
+    (λ c. search needs)
     loop-less-2
     loop-again-2
     returns-2)

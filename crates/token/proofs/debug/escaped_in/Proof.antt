@@ -7,21 +7,6 @@ use native.Mathlib.Omega.{arith}
 use Rattle.token.proofs.debug.escaped_in.Statement.{statement}
 use Rattle.token.proofs.debug.escaped_in.Tie as tie
 
-enum-told : tie.Need-enum-told
-enum-told c = search needs
-
-escaped-twice-requires : tie.Need-escaped-twice-requires
-escaped-twice-requires c κs = search needs
-
-enum-told-2 : tie.Need-enum-told-2
-enum-told-2 c = search needs
-
-reference-requires : tie.Need-reference-requires
-reference-requires c κs = search needs
-
-escaped-twice-requires-2 : tie.Need-escaped-twice-requires-2
-escaped-twice-requires-2 c κs = search needs
-
 returns : tie.Need-returns
 unfolding inText
 returns c = rw ((c .before .enum-told) .given .1) ((c .escaped-twice) .ensures)
@@ -39,11 +24,11 @@ pub escaped-in-spec : {M : Type 1} → statement M
 escaped-in-spec =
     tie.close
     (tie.spec
-    enum-told
-    escaped-twice-requires
-    enum-told-2
-    reference-requires
-    escaped-twice-requires-2
+    (λ c. search needs)
+    (λ c κs. search needs)
+    (λ c. search needs)
+    (λ c κs. search needs)
+    (λ c κs. search needs)
     returns
     returns-2
     returns-3)

@@ -19,7 +19,9 @@ slice-aggregate-put c = search needs
 put-requires : tie.Need-put-requires
 unfolding text-opens xmlEscape xmlText escapes escapeBy escape control
 put-requires c κs =
-    room-as (same-text ((c .before .before .before .before .before .args) .dialect) (escape (escape (0 ∷ []))) refl) (rw (name-none ((c .before .before .before .before .before .args) .s .now) ((c .before .before .before .before .before .args) .a) ((c .before .before .before .before .before .args) .e) ((c .before .before .if1) .taken)) at ((c .before .before .before .before .before .pre) .2))
+    let from = c .before .before .before .before .before in
+    let none = name-none (from .args .s .now) (from .args .a) (from .args .e) (c .before .before .if1 .taken) in
+    room-as (same-text (from .args .dialect) (escape (escape (0 ∷ []))) refl) (rw none at (from .pre .2))
 
 same-length : tie.Need-same-length
 same-length c = search needs
@@ -27,18 +29,24 @@ same-length c = search needs
 returns : tie.Need-returns
 unfolding text-opens xmlEscape xmlText escapes escapeBy escape control
 returns c =
-    rw (name-none ((c .before .before .before .before .before .before .before .before .args) .s .now) ((c .before .before .before .before .before .before .before .before .args) .a) ((c .before .before .before .before .before .before .before .before .args) .e) ((c .before .before .before .before .before .if1) .taken)) (puts-as (same-text ((c .before .before .before .before .before .before .before .before .args) .dialect) (escape (escape (0 ∷ []))) refl) ((c .before .before .put) .ensures))
+    let from = c .before .before .before .before .before .before .before .before in
+    let none = name-none (from .args .s .now) (from .args .a) (from .args .e) (c .before .before .before .before .before .if1 .taken) in
+    rw none (puts-as (same-text (from .args .dialect) (escape (escape (0 ∷ []))) refl) (c .before .before .put .ensures))
 
 put-escaped-requires : tie.Need-put-escaped-requires
 put-escaped-requires c κs =
-    ((c .before .before .before .before .pre) .0, (c .before .before .before .before .pre) .1, rw (name-some ((c .before .before .before .before .args) .s .now) ((c .before .before .before .before .args) .a) ((c .before .before .before .before .args) .e) (omega (arith, (c .before .if1) .left)) ((c .before .before .before .before .pre) .1)) at ((c .before .before .before .before .pre) .2))
+    let from = c .before .before .before .before in
+    let some = name-some (from .args .s .now) (from .args .a) (from .args .e) (omega (arith, c .before .if1 .left)) (from .pre .1) in
+    (from .pre .0, from .pre .1, rw some at (from .pre .2))
 
 same-length-2 : tie.Need-same-length-2
 same-length-2 c = search needs
 
 returns-2 : tie.Need-returns-2
 returns-2 c =
-    rw (name-some ((c .before .before .before .before .before .before .before .args) .s .now) ((c .before .before .before .before .before .before .before .args) .a) ((c .before .before .before .before .before .before .before .args) .e) (omega (arith, (c .before .before .before .before .if1) .left)) ((c .before .before .before .before .before .before .before .pre) .1)) ((c .before .before .put-escaped) .ensures)
+    let from = c .before .before .before .before .before .before .before in
+    let some = name-some (from .args .s .now) (from .args .a) (from .args .e) (omega (arith, c .before .before .before .before .if1 .left)) (from .pre .1) in
+    rw some (c .before .before .put-escaped .ensures)
 
 pub put-name-spec : {M : Type 1} → statement M
 put-name-spec =
