@@ -22,7 +22,7 @@ use attribute::{Accent, ColumnAlign, DisplayStyle, LineThickness, Variant};
 use token::Undefined;
 
 // A record of the store.
-#[derive(Drop)]
+#[derive(Clone, Copy)]
 pub struct Record {
     pub tag: u8,
     pub attr: u8,
@@ -35,7 +35,7 @@ pub struct Record {
 }
 
 // What a stretched operator shows: the character of an `Operator`, or the text of an `OtherOperator`.
-#[derive(Drop)]
+#[derive(Clone, Copy)]
 pub enum Stretched {
     Character(u32),
     Fixed(u32),
@@ -43,7 +43,7 @@ pub enum Stretched {
 
 // The nodes with no part. A number is a code point, the number of a fixed text or of a width; two are places in the body, and of a
 // `SizedParen` the numbers of its size and of its text.
-#[derive(Drop)]
+#[derive(Clone, Copy)]
 pub enum Leaf {
     Number(usize, usize),
     Letter(u32, Variant),
@@ -61,7 +61,7 @@ pub enum Leaf {
 }
 
 // The nodes with one part.
-#[derive(Drop)]
+#[derive(Clone, Copy)]
 pub enum One {
     OverOp(u32, Accent),
     UnderOp(u32, Accent),
@@ -72,7 +72,7 @@ pub enum One {
 }
 
 // The nodes with two parts, in the order in which they are printed: a `Root` is the Rust's `Sqrt` with a degree.
-#[derive(Drop)]
+#[derive(Clone, Copy)]
 pub enum Two {
     Subscript,
     Superscript,
@@ -84,14 +84,14 @@ pub enum Two {
 }
 
 // The nodes with three parts.
-#[derive(Drop)]
+#[derive(Clone, Copy)]
 pub enum Three {
     SubSup,
     UnderOver,
 }
 
 // What node a record is, with all that is not its parts: a `Row` and a `Matrix` have the number of their nodes.
-#[derive(Drop)]
+#[derive(Clone, Copy)]
 pub enum Shape {
     Leaf(Leaf),
     One(One),
@@ -102,7 +102,7 @@ pub enum Shape {
 }
 
 // What `set_variant`, `\middle` and an environment ask of a node: the number of an operator, and the number of a row's nodes.
-#[derive(Drop)]
+#[derive(Clone, Copy)]
 pub enum Role {
     Letter,
     Operator(u32),
@@ -112,7 +112,7 @@ pub enum Role {
 }
 
 // The numbers of a record that say what node it is.
-#[derive(Drop)]
+#[derive(Clone, Copy)]
 pub struct Fields {
     pub tag: u8,
     pub attr: u8,
@@ -122,7 +122,7 @@ pub struct Fields {
 
 // What becomes of a record where the records are added: it adds what it is, or what it is under a slash, or the finished tree does not hold
 // it.
-#[derive(Drop)]
+#[derive(Clone, Copy)]
 pub enum Fate {
     Counted,
     Slashed,
@@ -130,7 +130,7 @@ pub enum Fate {
 }
 
 // The ampersands and the new lines among some nodes.
-#[derive(Drop)]
+#[derive(Clone, Copy)]
 pub struct Marks {
     pub ampersands: usize,
     pub lines: usize,

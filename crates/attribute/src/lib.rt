@@ -9,7 +9,7 @@ ghost use Rattle.attribute.specs.Names.{variant, is_italic, accent, line_thickne
 use text::put::put;
 
 // The mathvariant of a letter.
-#[derive(Drop)]
+#[derive(Clone, Copy)]
 pub enum Variant {
     Normal,
     Italic,
@@ -27,27 +27,27 @@ pub enum Variant {
     Monospace,
 }
 
-#[derive(Drop)]
+#[derive(Clone, Copy)]
 pub enum Accent {
     True,
     False,
 }
 
 // The thicknesses that the parser makes: `Zero` is the Rust's `Length(0)`.
-#[derive(Drop)]
+#[derive(Clone, Copy)]
 pub enum LineThickness {
     Medium,
     Zero,
 }
 
 // The alignments that the parser makes.
-#[derive(Drop)]
+#[derive(Clone, Copy)]
 pub enum ColumnAlign {
     Center,
     Left,
 }
 
-#[derive(Drop)]
+#[derive(Clone, Copy)]
 pub enum DisplayStyle {
     Block,
     Inline,

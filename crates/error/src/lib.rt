@@ -1,6 +1,6 @@
 // Why an operation refuses: the Rust's error.rs, whose `LatexError` is some of these, each with its number, of document 01 or of a request of document 02.
 
-#[derive(Drop)]
+#[derive(Clone, Copy)]
 pub enum Refusal {
     TooLong,
     IllFormed,

@@ -9,13 +9,13 @@ use error::Refusal;
 use text::Dialect;
 
 // How an operation prints.
-#[derive(Drop)]
+#[derive(Clone, Copy)]
 pub struct Manner {
     pub dialect: Dialect,
 }
 
 // What an operation that writes gives: the length of what it wrote, or why it wrote nothing.
-#[derive(Drop)]
+#[derive(Clone, Copy)]
 pub enum Answer {
     Accepted(usize),
     Refused(Refusal),

@@ -12,7 +12,7 @@ use token::table::Table;
 use token::{Token, from_command};
 
 // A token with the place of its first byte in the body and the place after its last.
-#[derive(Drop)]
+#[derive(Clone, Copy)]
 pub struct Lexeme {
     pub token: Token,
     pub start: usize,
@@ -20,7 +20,7 @@ pub struct Lexeme {
 }
 
 // A place in the body.
-#[derive(Drop)]
+#[derive(Clone, Copy)]
 struct Cursor {
     at: usize,
 }

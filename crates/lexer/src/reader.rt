@@ -7,7 +7,7 @@ ghost use Rattle.lexer.specs.Lex.{next_token};
 use crate::{Cursor, Lexeme};
 use token::table::Table;
 
-#[derive(Drop)]
+#[derive(Clone, Copy)]
 pub struct Lexer<'a> {
     input: &'a [u8],
     at: usize,

@@ -1,7 +1,7 @@
 // The markup of single nodes: leaves, and what is printed around the parts of a node.
 
 // Where a node is printed: by itself, under a slash, or as a direct part of a matrix.
-#[derive(Drop)]
+#[derive(Clone, Copy)]
 pub enum Place {
     Plain,
     Slashed,

@@ -18,14 +18,14 @@ use text::put::put;
 use token::table::table;
 
 // What the page operation gives: the length of the output, the number of paragraphs and of those left as typed, or why it wrote nothing.
-#[derive(Drop)]
+#[derive(Clone, Copy)]
 pub enum PageAnswer {
     Accepted(usize, usize, usize),
     Refused(Refusal),
 }
 
 // What drafting a page gives: the length of the output, the number of paragraphs and of those left as typed.
-#[derive(Drop)]
+#[derive(Clone, Copy)]
 pub struct Totals {
     pub length: usize,
     pub paragraphs: usize,

@@ -29,7 +29,7 @@ use token::{Mark, Token};
 
 // The Rust's `Result<Vec<Node>, LatexError>`: the index of the first of some nodes, linked by next, how many they are, and how many records
 // are made; or why there are none.
-#[derive(Drop)]
+#[derive(Clone, Copy)]
 pub enum ParsedNodes {
     Nodes(usize, usize, usize),
     Refused(Refusal),

@@ -17,7 +17,7 @@ use token::table::Table;
 use token::{Binomial, Mark, Token};
 
 // The Rust's `Parser`, by value: the lexer stands at the end of `peek`, and `made` counts the records.
-#[derive(Drop)]
+#[derive(Clone, Copy)]
 pub struct Parser {
     pub cur: Lexeme,
     pub peek: Lexeme,
@@ -25,7 +25,7 @@ pub struct Parser {
 }
 
 // A text of the body: the letters from a up to e, and the state behind them.
-#[derive(Drop)]
+#[derive(Clone, Copy)]
 pub struct TextRead {
     pub a: usize,
     pub e: usize,
@@ -33,28 +33,28 @@ pub struct TextRead {
 }
 
 // The Rust's `Result<Node, LatexError>`: the index of a node and the state behind it, or why there is none.
-#[derive(Drop)]
+#[derive(Clone, Copy)]
 pub enum ParsedNode {
     Node(usize, Parser),
     Refused(Refusal),
 }
 
 // The text of a parenthesis or of a fence, if the token is one.
-#[derive(Drop)]
+#[derive(Clone, Copy)]
 pub enum Fence {
     Missing,
     Fixed(u32),
 }
 
 // Whether a token is the mark of a script, and whether its operand stands above.
-#[derive(Drop)]
+#[derive(Clone, Copy)]
 pub enum Script {
     Neither,
     Operand(bool),
 }
 
 // The commands with two operands.
-#[derive(Drop)]
+#[derive(Clone, Copy)]
 pub enum Pair {
     Frac,
     Binom(Binomial),
@@ -63,14 +63,14 @@ pub enum Pair {
 }
 
 // The operators with limits, each with its character.
-#[derive(Drop)]
+#[derive(Clone, Copy)]
 pub enum Limits {
     BigOp(u32),
     Integral(u32),
 }
 
 // A matrix with its alignment, alone or between two fixed texts.
-#[derive(Drop)]
+#[derive(Clone, Copy)]
 pub enum Environment {
     Unknown,
     Bare(ColumnAlign),

@@ -12,14 +12,14 @@ use text::Dialect;
 use token::table::Table;
 
 // What is found of a tree.
-#[derive(Drop)]
+#[derive(Clone, Copy)]
 pub struct Measured {
     pub length: usize,
     pub errors: usize,
 }
 
 // What some records add, and the marks of the matrices among them.
-#[derive(Drop)]
+#[derive(Clone, Copy)]
 struct Sums {
     length: usize,
     errors: usize,

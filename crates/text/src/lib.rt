@@ -8,21 +8,21 @@ ghost use Rattle.text.specs.Follow.{pending, ranges, after, read};
 ghost use Rattle.text.specs.Any.{contains, has_nul, is_ascii};
 
 // How markup is printed: byte for byte as the Rust prints it, or as XML that a strict reader takes.
-#[derive(Drop)]
+#[derive(Clone, Copy)]
 pub enum Dialect {
     Old,
     Strict,
 }
 
 // A code point and the number of bytes that it takes.
-#[derive(Drop)]
+#[derive(Clone, Copy)]
 pub struct CodePoint {
     pub code: u32,
     pub width: usize,
 }
 
 // How many bytes follow, and the range of the next one; or that no text goes on so.
-#[derive(Drop)]
+#[derive(Clone, Copy)]
 enum Follow {
     Bytes(usize, u8, u8),
     Nothing,

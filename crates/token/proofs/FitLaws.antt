@@ -1,7 +1,7 @@
 -- What is asked of a token: of the character that it carries, or of the places of its number or its name. A test that the characters of the
 -- arms pass is passed by a command's token.
 -- Assumes nothing.
-use Rattle.core.specs.Prelude.{◌≡◌, ℕ, Bool, true, false, List, [], ◌∷◌}
+use Rattle.std.specs.Prelude.{◌≡◌, ℕ, Bool, true, false, List, [], ◌∷◌}
 use mathlib.Core.Bool.{and-eq-true_iff}
 use mathlib.Core.Option.{Option, none, some}
 use Prim.Native.String.{String}

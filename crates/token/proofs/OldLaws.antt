@@ -1,6 +1,6 @@
 -- In the old dialect a command's token is printed as that of the Rust's arms.
 -- Assumes nothing.
-use Rattle.core.specs.Prelude.{◌≡◌, ℕ, true, List, [], ◌∷◌, map}
+use Rattle.std.specs.Prelude.{◌≡◌, ℕ, true, List, [], ◌∷◌, map}
 use mathlib.Core.Path.{refl}
 use Rattle.text.proofs.Cases.{by_test}
 use Rattle.token.specs.declared.Token.{Token}

@@ -1,6 +1,6 @@
 -- The order of names, `cmp`: it chains, it turns, and what compares as equal is equal. And what follows for a table in order.
 -- Assumes nothing.
-use Rattle.core.specs.Prelude.{◌≡◌, ℕ, zero, suc, ◌+◌, ◌<◌, ◌≤◌, ltb, ◌⊎◌, List, [], ◌∷◌}
+use Rattle.std.specs.Prelude.{◌≡◌, ℕ, zero, suc, ◌+◌, ◌<◌, ◌≤◌, ltb, ◌⊎◌, List, [], ◌∷◌}
 use mathlib.Core.Path.{refl, sym, ap, ◌∙◌, subst}
 use mathlib.Core.Logic.{inl, inr, ⊎_elim}
 use native.Mathlib.Nat.{le_trans, le_of_lt, le_of_suc-le-suc, not-suc-le-zero, eq-or-lt_of_le}

@@ -1,6 +1,6 @@
 -- The rows of the table: where each begins, and what stands in it.
 -- Assumes nothing.
-use Rattle.core.specs.Prelude.{◌≡◌, ℕ, zero, suc, ◌+◌, ◌-◌, ◌<◌, ◌≤◌, Bool, true, false, ltb, leb, List, ◌++◌, length, get_or, take}
+use Rattle.std.specs.Prelude.{◌≡◌, ℕ, zero, suc, ◌+◌, ◌-◌, ◌<◌, ◌≤◌, Bool, true, false, ltb, leb, List, ◌++◌, length, get_or, take}
 use mathlib.Core.Path.{refl, ap, ◌∙◌}
 use mathlib.Core.List as L
 use native.Mathlib.Nat.{not-suc-le-zero, le_of_suc-le-suc}

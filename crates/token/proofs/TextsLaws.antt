@@ -1,6 +1,6 @@
 -- Past the last number a list of texts gives the empty text, and the strict dialect keeps each but two.
 -- Assumes nothing.
-use Rattle.core.specs.Prelude.{◌≡◌, ℕ, ◌≤◌}
+use Rattle.std.specs.Prelude.{◌≡◌, ℕ, ◌≤◌}
 use borrow.Author.Tests.{ne_eqb}
 use lib.ListN.{get_or-eq_default}
 use Rattle.token.specs.Texts.{texts, text, text_of, text_in, printed_widths, width_of}

@@ -1,7 +1,7 @@
 -- The arms of `Token::from_command` in the Rust's order, spelled as there: `code` is a character's code point, and `text` and
 -- `width` number the fixed texts and the widths.
 -- Assumes nothing.
-use Rattle.core.specs.Prelude.{List, [], ◌∷◌}
+use Rattle.std.specs.Prelude.{List, [], ◌∷◌}
 use Prim.Native.Char.{code}
 use Rattle.attribute.specs.declared.Variant.TheVariants.{Normal, Italic, Bold, BoldItalic, DoubleStruck, BoldFraktur, Script, BoldScript, Fraktur, SansSerif, BoldSansSerif, SansSerifItalic, SansSerifBoldItalic, Monospace}
 use Rattle.attribute.specs.declared.Accent.TheVariants.{True}

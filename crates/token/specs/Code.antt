@@ -1,6 +1,6 @@
 -- The codes of the command table: the highest bit marks a code, the next seven are a form, and the form makes a token of the other 24.
 -- Assumes nothing.
-use Rattle.core.specs.Prelude.{ℕ, ◌/◌, ◌%◌, List, [], ◌∷◌, slice_index_or}
+use Rattle.std.specs.Prelude.{ℕ, ◌/◌, ◌%◌, List, [], ◌∷◌, slice_index_or}
 use Rattle.attribute.specs.declared.Variant.TheVariants.{Normal, Italic, Bold, BoldItalic, DoubleStruck, Script, Fraktur, SansSerif, Monospace}
 use Rattle.attribute.specs.declared.Accent.TheVariants.{True}
 use Rattle.attribute.specs.declared.DisplayStyle.TheVariants.{Block, Inline}

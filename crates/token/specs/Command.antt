@@ -1,6 +1,6 @@
 -- `Token::from_command`, with the one command that the dialects print as different characters, and `Token::acts_on_a_digit`.
 -- Assumes nothing.
-use Rattle.core.specs.Prelude.{ℕ, Bool, true, false, List, ◌∷◌, ◌==◌}
+use Rattle.std.specs.Prelude.{ℕ, Bool, true, false, List, ◌∷◌, ◌==◌}
 use Prim.Native.Char.{code}
 use Rattle.text.specs.declared.Dialect.{Dialect}
 use Rattle.token.specs.declared.Token.{Token}

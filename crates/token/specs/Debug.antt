@@ -1,6 +1,6 @@
 -- The derived Debug text of the tokens that can become `Undefined`, with the escapes of document 01.
 -- Assumes nothing.
-use Rattle.core.specs.Prelude.{ℕ, ◌/◌, ◌%◌, ◌≤◌, Bool, true, false, ◌||◌, List, [], ◌∷◌, ◌++◌, ◌==◌, nat_lt, slice_index}
+use Rattle.std.specs.Prelude.{ℕ, ◌/◌, ◌%◌, ◌≤◌, Bool, true, false, ◌||◌, List, [], ◌∷◌, ◌++◌, ◌==◌, nat_lt, slice_index}
 use Prim.Native.Char.{code}
 use Rattle.text.specs.Text.{bytes, part}
 use Rattle.token.specs.declared.Undefined.{Undefined}

@@ -1,6 +1,6 @@
 -- Worked examples, which antt computes.
 -- Assumes nothing.
-use Rattle.core.specs.Prelude.{◌≡◌, ℕ, List, [], ◌∷◌, map, length}
+use Rattle.std.specs.Prelude.{◌≡◌, ℕ, List, [], ◌∷◌, map, length}
 use Rattle.std.specs.Prelude.{refl}
 use Prim.Native.Char.{code}
 use Rattle.text.specs.Text.{bytes}

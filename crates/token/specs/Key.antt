@@ -1,6 +1,6 @@
 -- The command table as the search reads it: the name and the token at a place, a name as words with their order, and the rows.
 -- Assumes nothing.
-use Rattle.core.specs.Prelude.{◌≡◌, ℕ, zero, suc, ◌+◌, ◌*◌, ◌/◌, ◌<◌, ◌≤◌, Bool, true, false, List, ◌++◌, length, take, drop, ◌≢◌, nat_lt, slice_index, slice_index_or}
+use Rattle.std.specs.Prelude.{◌≡◌, ℕ, zero, suc, ◌+◌, ◌*◌, ◌/◌, ◌<◌, ◌≤◌, Bool, true, false, List, ◌++◌, length, take, drop, ◌≢◌, nat_lt, slice_index, slice_index_or}
 use mathlib.Core.List as L
 use Prim.Native.Char.{code}
 use Prim.Native.String.{String, [], ◌∷◌}

@@ -1,6 +1,6 @@
 -- What the parser asks of a token: each question is answered here for every token, once.
 -- Assumes nothing.
-use Rattle.core.specs.Prelude.{ℕ, Bool, true, false, ◌==◌}
+use Rattle.std.specs.Prelude.{ℕ, Bool, true, false, ◌==◌}
 use Rattle.std.proofs.Math.Option.{Option, none, some}
 use Prim.Native.Char.{code}
 use Rattle.token.specs.declared.Token.{Token}

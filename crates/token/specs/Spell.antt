@@ -1,6 +1,6 @@
 -- How an arm of the Rust's match over a string is written and read.
 -- Assumes nothing.
-use Rattle.core.specs.Prelude.{ℕ, Bool, true, false, List, ◌==◌}
+use Rattle.std.specs.Prelude.{ℕ, Bool, true, false, List, ◌==◌}
 use mathlib.Core.List as L
 use Prim.Native.Char.{code}
 use Prim.Native.String.{String, [], ◌∷◌}

@@ -1,7 +1,7 @@
 -- The command table: the names of `own_arms`, sorted by their bytes, each with the code of its token (`Code`). Written by tools/table.py;
 -- the law file `Agree` shows its order, and that it says what `own_arms` says.
 -- Assumes nothing.
-use Rattle.core.specs.Prelude.{ℕ, List, [], ◌∷◌}
+use Rattle.std.specs.Prelude.{ℕ, List, [], ◌∷◌}
 use Rattle.token.specs.Spell.{Arm, ◌=>◌}
 
 -- the number of its entries

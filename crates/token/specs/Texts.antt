@@ -1,6 +1,6 @@
 -- The fixed texts that tokens and nodes carry by number, and the widths of a space.
 -- Assumes nothing.
-use Rattle.core.specs.Prelude.{ℕ, suc, true, false, List, [], ◌∷◌, ◌==◌, slice_index_or}
+use Rattle.std.specs.Prelude.{ℕ, suc, true, false, List, [], ◌∷◌, ◌==◌, slice_index_or}
 use Prim.Native.String.{String}
 use lib.Text.{eqt}
 use Rattle.text.specs.declared.Dialect.{Dialect}

@@ -1,5 +1,5 @@
 // The Debug text of the tokens that become `Undefined`, escaped once more, as the error text has it, in a dialect.
-ghost use Rattle.core.specs.Prelude.{◌≡◌, ◌≤◌, length};
+ghost use Rattle.std.specs.Prelude.{◌≡◌, ◌≤◌, length};
 ghost use Rattle.text.specs.Text.{part};
 ghost use Rattle.text.specs.Put.{Room, Puts, unpacked};
 ghost use Rattle.text.specs.Xml.{in_text};

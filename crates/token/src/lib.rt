@@ -4,7 +4,7 @@ pub mod debug;
 pub mod table;
 pub mod texts;
 
-ghost use Rattle.core.specs.Prelude.{◌≡◌, ℕ, ◌+◌, ◌*◌, ◌^◌, ◌<◌, ◌≤◌, length, drop, slice_index};
+ghost use Rattle.std.specs.Prelude.{◌≡◌, ℕ, ◌+◌, ◌*◌, ◌^◌, ◌<◌, ◌≤◌, length, drop, slice_index};
 ghost use Rattle.text.specs.Text.{part};
 ghost use Rattle.token.specs.Command.{from_command, operator_in, acts_on_a_digit};
 ghost use Rattle.token.specs.Key.{word_of, words, key, rows, cmp, Row, Has, Place};
@@ -14,14 +14,14 @@ use table::{LENGTH, MARK, Table, token_of};
 use text::Dialect;
 
 // The Rust's `Option<DisplayStyle>`.
-#[derive(Drop)]
+#[derive(Clone, Copy)]
 pub enum Binomial {
     Plain,
     Styled(DisplayStyle),
 }
 
 // The Rust's `Token`, but for `Illegal`, which no lexer makes.
-#[derive(Drop)]
+#[derive(Clone, Copy)]
 pub enum Token {
     EOF,
     Begin,
@@ -62,7 +62,7 @@ pub enum Token {
 }
 
 // The tokens that begin no node, which the parser makes an `Undefined`.
-#[derive(Drop)]
+#[derive(Clone, Copy)]
 pub enum Undefined {
     EOF,
     End,
@@ -74,7 +74,7 @@ pub enum Undefined {
 }
 
 // The tokens that the parser asks for by name.
-#[derive(Drop)]
+#[derive(Clone, Copy)]
 pub enum Mark {
     EOF,
     LBracket,
@@ -90,7 +90,7 @@ pub enum Mark {
 }
 
 // How a name of the table compares with another: the Rust's `core::cmp::Ordering`.
-#[derive(Drop)]
+#[derive(Clone, Copy)]
 pub enum Ordering {
     Less,
     Equal,

@@ -1,6 +1,6 @@
 // The command table, sorted by name: a row has the words of a name, four bytes each, big-endian, with zeros behind its end, and the code
 // of its token, which alone has the highest bit. Written by tools/table.py from the Rust's token.rs.
-ghost use Rattle.core.specs.Prelude.{◌≡◌};
+ghost use Rattle.std.specs.Prelude.{◌≡◌};
 ghost use Rattle.token.specs.Code.{token_of};
 ghost use Rattle.token.specs.Key.{rows};
 

@@ -1,5 +1,5 @@
 // The fixed texts that tokens and nodes carry by number.
-ghost use Rattle.core.specs.Prelude.{◌≡◌, length, take, drop};
+ghost use Rattle.std.specs.Prelude.{◌≡◌, length, take, drop};
 ghost use Rattle.text.specs.Text.{bytes};
 ghost use Rattle.text.specs.Put.{Room, Puts, unpacked};
 ghost use Rattle.token.specs.Texts.{text_of, text_in, width_of};

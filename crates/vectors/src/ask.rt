@@ -10,7 +10,7 @@ use page::{PageAnswer, page};
 use text::Dialect;
 
 // An answer in numbers: 0 and the length, or the number of the refusal; the counts of a page.
-#[derive(Drop)]
+#[derive(Clone, Copy)]
 pub struct Got {
     pub number: usize,
     pub length: usize,

@@ -4,7 +4,7 @@ ghost use Rattle.std.specs.Prelude.{◌≤◌, length};
 use crate::packed::decimal;
 
 // What a line's head says: what is asked and in which dialect, the lengths lent, and the number, the paragraphs and those left as typed that are expected.
-#[derive(Drop)]
+#[derive(Clone, Copy)]
 pub struct Case {
     pub kind: u8,
     pub scope: bool,
@@ -18,7 +18,7 @@ pub struct Case {
 }
 
 // The head of a line and the place behind it.
-#[derive(Drop)]
+#[derive(Clone, Copy)]
 pub struct Head {
     pub case: Case,
     pub next: usize,

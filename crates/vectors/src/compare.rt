@@ -8,7 +8,7 @@ use crate::packed::{put_bytes, put_opening, put_piece, unpack};
 use check::same;
 
 // Whether an answer is the stored one, or the number that came instead.
-#[derive(Drop)]
+#[derive(Clone, Copy)]
 pub enum Verdict {
     Same,
     Differs(usize),

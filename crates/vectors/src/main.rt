@@ -26,7 +26,7 @@ use crate::packed::unpack;
 use libc::{STDIN_FILENO, STDOUT_FILENO};
 
 // What was counted: cases, those of them whose answer is from the documents, answers and those of them that differ.
-#[derive(Drop)]
+#[derive(Clone, Copy)]
 pub struct Tally {
     pub cases: u64,
     pub scope: u64,

@@ -1,0 +1,8 @@
+-- `lexer::Cursor::read_command` meets its contract.
+use mathlib.Core.Path.{◌∙◌}
+use Rattle.lexer.proofs.NextLaws.{command_read}
+use Rattle.lexer.proofs.Cursor.read_command.Goals as goal
+
+pub returns : goal.returns
+returns c =
+    c.new.ensures ∙ rw c.from_command.ensures (command_read c.args.s.now c.args.self.at c.skip_name-after.result.at c.skip_name-after.ensures.0)

@@ -1,0 +1,29 @@
+-- `lexer::Cursor::skip_name` meets its contract.
+use mathlib.Core.Path.{◌≡◌, sym, ◌∙◌, ap}
+use mathlib.Core.Logic.{⊎_elim}
+use Prim.Native.Nat.{◌+◌}
+use lib.ListN.{drop}
+use Rattle.text.specs.Utf8.{code_point}
+use Rattle.lexer.specs.Lex.{name_length}
+use Rattle.text.proofs.Utf8Laws.{point_inside}
+use Rattle.lexer.proofs.NameLaws.{name_letters, name_other, name_end}
+use native.Mathlib.Omega.{arith}
+use Rattle.lexer.proofs.Cursor.skip_name.Goals as goal
+
+pub returns-then-is_alphabetic : goal.returns-then-is_alphabetic
+returns-then-is_alphabetic c =
+    let s = c.args.s.now in
+    let at = c.args.self.at in
+    (rw (name_letters s at c.if-at-s.true (sym c.is_alphabetic.ensures ∙ c.if-is_alphabetic.true)) c.skip_alphabetic.ensures.0, c.skip_alphabetic.ensures.1)
+
+pub overflow_add-result : goal.overflow_add-result
+overflow_add-result c =
+    omega (arith, ap (λ q. q.width) c.code_point-p.ensures, point_inside c.args.s.now c.args.self.at (c.requires))
+
+pub returns : goal.returns
+returns c =
+    let s = c.args.s.now in
+    let at = c.args.self.at in
+    let w = ap (λ q. q.width) c.code_point-p.ensures in
+    let length-of-name : name_length (drop at s) ≡ (code_point (drop at s)).width = ⊎_elim (λ x. name_other s at x.0.taken (sym x.2.ensures ∙ x.3.left)) (λ x. name_end s at x.left) c.if-at-s.branch in
+    (ap (λ n. at + n) (w ∙ sym length-of-name), omega (arith, w, point_inside s at (c.requires)))
