@@ -1,5 +1,4 @@
-// The Rust's `Lexer`: a place in the caller's bytes, which it borrows. The borrow checker covers no function over such a struct, so
-// both are proved by hand, are as thin as can be, and leave the work to the cursor.
+// The Rust's `Lexer`: a place in the caller's bytes, which it borrows. Its functions leave the work to the cursor.
 ghost use Rattle.std.specs.Prelude.{◌≡◌, ◌≤◌, length, drop};
 ghost use Rattle.token.specs.Key.{rows};
 ghost use Rattle.lexer.specs.Lex.{next_token};

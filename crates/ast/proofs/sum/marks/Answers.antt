@@ -13,7 +13,7 @@ get_record-r-requires c = adding_fits c.loop-todo.invariant.0 c.loop-todo-test.t
 pub overflow_add-ampersands : goal.overflow_add-ampersands
 overflow_add-ampersands c =
     let s = c.loop-todo.invariant.0.small in
-    let l = c.loop-todo.invariant.0.false in
+    let l = c.loop-todo.invariant.0.left in
     let e = c.ampersands_of-ampersands.ensures in
     let m = mark_small 1 0 (shape_of (fields_of c.get_record-r.result)) (omega arith) (omega arith) in
     omega arith
@@ -21,7 +21,7 @@ overflow_add-ampersands c =
 pub overflow_add-lines : goal.overflow_add-lines
 overflow_add-lines c =
     let s = c.loop-todo.invariant.1.small in
-    let l = c.loop-todo.invariant.1.false in
+    let l = c.loop-todo.invariant.1.left in
     let e = c.lines_of-lines.ensures in
     let m = mark_small 0 1 (shape_of (fields_of c.get_record-r.result)) (omega arith) (omega arith) in
     omega arith

@@ -1,6 +1,5 @@
 -- `lexer::Cursor::skip_name` meets its contract.
 use mathlib.Core.Path.{◌≡◌, sym, ◌∙◌, ap}
-use mathlib.Core.Logic.{⊎_elim}
 use Prim.Native.Nat.{◌+◌}
 use lib.ListN.{drop}
 use Rattle.text.specs.Utf8.{code_point}
@@ -9,6 +8,7 @@ use Rattle.text.proofs.Utf8Laws.{point_inside}
 use Rattle.lexer.proofs.NameLaws.{name_letters, name_other, name_end}
 use native.Mathlib.Omega.{arith}
 use Rattle.lexer.proofs.Cursor.skip_name.Goals as goal
+use Rattle.lexer.proofs.Cursor.skip_name.Goals.{then-at-s+else-is_alphabetic, else-at-s}
 
 pub returns-then-is_alphabetic : goal.returns-then-is_alphabetic
 returns-then-is_alphabetic c =
@@ -25,5 +25,8 @@ returns c =
     let s = c.args.s.now in
     let at = c.args.self.at in
     let w = ap (λ q. q.width) c.code_point-p.ensures in
-    let length-of-name : name_length (drop at s) ≡ (code_point (drop at s)).width = ⊎_elim (λ x. name_other s at x.0.taken (sym x.2.ensures ∙ x.3.left)) (λ x. name_end s at x.left) c.if-at-s.branch in
-    (ap (λ n. at + n) (w ∙ sym length-of-name), omega (arith, w, point_inside s at (c.requires)))
+    let length_of_name : name_length (drop at s) ≡ (code_point (drop at s)).width = elim c.if-at-s.branch [
+    then-at-s+else-is_alphabetic w ↦ name_other s at w.if-at-s.true (sym w.is_alphabetic.ensures ∙ w.if-is_alphabetic.false)
+    | else-at-s w ↦ name_end s at w.if-at-s.false
+    ] in
+    (ap (λ n. at + n) (w ∙ sym length_of_name), omega (arith, w, point_inside s at (c.requires)))

@@ -11,12 +11,12 @@ loop-i-init c = (refl, c.requires)
 pub loop-i-preserved-then-is_digit : goal.loop-i-preserved-then-is_digit
 loop-i-preserved-then-is_digit c =
     let l = c.loop-i in
-    (omega (arith, l.invariant.0, number_digit l.has-period c.args.s.now l.i c.loop-i-test.true (sym c.is_digit.ensures ∙ c.if-is_digit.true)), omega arith)
+    (omega (arith, l.invariant.0, number_digit l.has_period c.args.s.now l.i c.loop-i-test.true (sym c.is_digit.ensures ∙ c.if-is_digit.true)), omega arith)
 
 pub returns-then-b-ne46 : goal.returns-then-b-ne46
 returns-then-b-ne46 c =
     let l = c.loop-i in
-    (omega (arith, l.invariant.0, number_other l.has-period c.args.s.now l.i c.loop-i-test.true (sym c.is_digit.ensures ∙ c.if-is_digit.false) c.if-b-ne46.true), l.invariant.1)
+    (omega (arith, l.invariant.0, number_other l.has_period c.args.s.now l.i c.loop-i-test.true (sym c.is_digit.ensures ∙ c.if-is_digit.false) c.if-b-ne46.true), l.invariant.1)
 
 pub returns-then-has_period : goal.returns-then-has_period
 returns-then-has_period c =
@@ -33,4 +33,4 @@ loop-i-preserved c =
 pub returns : goal.returns
 returns c =
     let l = c.loop-i in
-    (omega (arith, l.invariant.0, number_end l.has-period c.args.s.now l.i c.loop-i-test.false), l.invariant.1)
+    (omega (arith, l.invariant.0, number_end l.has_period c.args.s.now l.i c.loop-i-test.false), l.invariant.1)

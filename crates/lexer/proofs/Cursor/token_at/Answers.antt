@@ -1,7 +1,6 @@
 -- `lexer::Cursor::token_at` meets its contract.
 use mathlib.Core.Path.{refl, sym, ◌∙◌, ap}
 use mathlib.Core.Bool.{true, false}
-use mathlib.Core.Logic.{⊎_elim}
 use lib.ListN.{drop}
 use borrow.Author.Tests.{eqb-false}
 use native.Mathlib.Nat.{le_trans}
@@ -16,6 +15,7 @@ use Rattle.lexer.proofs.NameLaws.{assigns_inside}
 use Rattle.lexer.proofs.TokenLaws.{token_character, token_number, token_command, token_colon, token_assigns, token_letter, head_inside, marks}
 use native.Mathlib.Omega.{arith}
 use Rattle.lexer.proofs.Cursor.token_at.Goals as goal
+use Rattle.lexer.proofs.Cursor.token_at.Goals.{in_default-via-then-c-lt38, in_default-via-else-c-lt38+else-c-lt58+then-c-lt65, in_default-via-else-c-lt38+else-c-lt58+else-c-lt65+else-c-lt91+then-c-lt97, in_default-via-else-c-lt38+else-c-lt58+else-c-lt65+else-c-lt91+else-c-lt97+else-c-lt123}
 
 pub overflow_add-end : goal.overflow_add-end
 overflow_add-end c =
@@ -160,20 +160,25 @@ returns-in-92 c =
 
 pub returns-in-48-to-57 : goal.returns-in-48-to-57
 returns-in-48-to-57 c =
-    c.read_number.ensures ∙ sym (token_number c.args.self.at (drop c.args.self.at c.args.s.now) c.code_point-p.result c.code_point-p.ensures (digits c.code_point-p.result.code (beyond marks 10 38 c.code_point-p.result.code refl (outside marks c.code_point-p.result.code c.in_default-1.rest) c.if-c-lt38.false) c.in-48-to-57.if-c-lt58-own.true).digit)
+    c.read_number.ensures ∙ sym (token_number c.args.self.at (drop c.args.self.at c.args.s.now) c.code_point-p.result c.code_point-p.ensures (digits c.code_point-p.result.code (beyond marks 10 38 c.code_point-p.result.code refl (outside marks c.code_point-p.result.code c.in-48-to-57.in_default-own.rest) c.in-48-to-57.if-c-lt38-own.false) c.in-48-to-57.if-c-lt58-own.true).digit)
 
 pub returns-in-65-to-90 : goal.returns-in-65-to-90
 returns-in-65-to-90 c =
-    let k = upper c.code_point-p.result.code c.if-c-lt65.false c.in-65-to-90.if-c-lt91-own.true in
-    c.new-in-65-to-90.ensures ∙ token_letter c.args.self.at (drop c.args.self.at c.args.s.now) c.code_point-p.result Variant.Italic true c.code_point-p.ensures c.in_default-1.rest k.digit k.alphabetic refl
+    let k = upper c.code_point-p.result.code c.in-65-to-90.if-c-lt65-own.false c.in-65-to-90.if-c-lt91-own.true in
+    c.new-in-65-to-90.ensures ∙ token_letter c.args.self.at (drop c.args.self.at c.args.s.now) c.code_point-p.result Variant.Italic true c.code_point-p.ensures c.in-65-to-90.in_default-own.rest k.digit k.alphabetic refl
 
 pub returns-in-97-to-122 : goal.returns-in-97-to-122
 returns-in-97-to-122 c =
-    let k = lower c.code_point-p.result.code c.if-c-lt97.false c.in-97-to-122.if-c-lt123-own.true in
-    c.new-in-97-to-122.ensures ∙ token_letter c.args.self.at (drop c.args.self.at c.args.s.now) c.code_point-p.result Variant.Italic true c.code_point-p.ensures c.in_default-1.rest k.digit k.alphabetic refl
+    let k = lower c.code_point-p.result.code c.in-97-to-122.if-c-lt97-own.false c.in-97-to-122.if-c-lt123-own.true in
+    c.new-in-97-to-122.ensures ∙ token_letter c.args.self.at (drop c.args.self.at c.args.s.now) c.code_point-p.result Variant.Italic true c.code_point-p.ensures c.in-97-to-122.in_default-own.rest k.digit k.alphabetic refl
 
 pub returns-in_default : goal.returns-in_default
 returns-in_default c =
     let code = c.code_point-p.result.code in
-    let k : Class code false false = ⊎_elim (λ x. below code (le_trans x.taken (lit≤ tt))) (⊎_elim (λ x. between code x.1.left x.2.taken) (⊎_elim (λ x. amid code x.3.left x.4.taken) (λ x. above code x.5.left))) c.in_default.branch in
+    let k : Class code false false = elim c.in_default.branch [
+    in_default-via-then-c-lt38 w ↦ below code (omega arith)
+    | in_default-via-else-c-lt38+else-c-lt58+then-c-lt65 w ↦ between code (omega arith) (omega arith)
+    | in_default-via-else-c-lt38+else-c-lt58+else-c-lt65+else-c-lt91+then-c-lt97 w ↦ amid code (omega arith) (omega arith)
+    | in_default-via-else-c-lt38+else-c-lt58+else-c-lt65+else-c-lt91+else-c-lt97+else-c-lt123 w ↦ above code (omega arith)
+    ] in
     c.new-in_default.ensures ∙ token_letter c.args.self.at (drop c.args.self.at c.args.s.now) c.code_point-p.result Variant.Normal false c.code_point-p.ensures c.in_default-1.rest k.digit k.alphabetic refl

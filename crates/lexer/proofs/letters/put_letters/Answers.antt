@@ -1,4 +1,5 @@
 use Prim.Native.Nat.{◌-◌}
+use borrow.Enum.Refused.{opened}
 use Rattle.text.proofs.PutLaws.{putting_length}
 use Rattle.lexer.proofs.LettersLaws.{reading_none, reading_room, reading_more, reading_all, letter_inside, no_letter}
 use native.Mathlib.Omega.{arith}
@@ -31,4 +32,4 @@ shape_of-out-in_default c = putting_length c.requires.0 c.loop-c.invariant.putti
 
 pub returns-in_default : goal.returns-in_default
 returns-in_default c =
-    reading_all c.loop-c.invariant c.token_from-l.result c.token_from-l.ensures.0 (no_letter c.token_from-l.result.token c.in_default.in_default-own.keys2)
+    reading_all c.loop-c.invariant c.token_from-l.result c.token_from-l.ensures.0 (no_letter c.token_from-l.result.token (opened c.in_default.in_default-own.keys2))
