@@ -1,0 +1,12 @@
+-- `leaves::lengths::accent_len` meets its contract.
+use Rattle.text.specs.Examples.{text_opens}
+use Rattle.attribute.specs.Names.{accent}
+use Rattle.leaves.proofs.lengths.accent_len.Goals as goal
+
+pub returns-in-True : goal.returns-in-True
+unfolding text_opens accent
+returns-in-True c = rw c.in-True.is
+
+pub returns-in-False : goal.returns-in-False
+unfolding text_opens accent
+returns-in-False c = rw c.in-False.is
