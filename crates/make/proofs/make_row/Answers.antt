@@ -1,0 +1,10 @@
+-- `make::make_row` meets its contract.
+use Rattle.make.proofs.MakeLaws.{group_of_one, group_made}
+use Rattle.make.proofs.make_row.Goals as goal
+
+pub returns-then-count-eq1 : goal.returns-then-count-eq1
+returns-then-count-eq1 c = group_of_one c.args.store.now c.args.p c.args.first c.args.count c.if-count-eq1.true
+
+pub returns : goal.returns
+returns c =
+    group_made c.args.p c.args.first c.args.count c.if-count-eq1.false (rw c.row_fields.ensures at c.put_node.ensures) c.done.ensures
