@@ -69,7 +69,7 @@ fn put_front_matrix(dialect: Dialect, align: ColumnAlign, out: &mut [u8], at: us
 }
 
 // Prints the node at an index below `left`. Its parts stand before it, so they are below `left - 1`.
-#[cycle(print_matrix_print_node_print_nodes_print_one_print_row_print_three_print_two)]
+#[cycle(printer)]
 fn print_node(
     dialect: Dialect,
     place: Place,
@@ -119,7 +119,7 @@ fn print_node(
 }
 
 // Prints a node with one part, at the index a.
-#[cycle(print_matrix_print_node_print_nodes_print_one_print_row_print_three_print_two)]
+#[cycle(printer)]
 fn print_one(
     dialect: Dialect,
     k: One,
@@ -140,7 +140,7 @@ fn print_one(
 }
 
 // Prints a node with two parts, at the indices a and b.
-#[cycle(print_matrix_print_node_print_nodes_print_one_print_row_print_three_print_two)]
+#[cycle(printer)]
 fn print_two(
     dialect: Dialect,
     k: Two,
@@ -163,7 +163,7 @@ fn print_two(
 }
 
 // Prints a node with three parts, at the indices a, b and c.
-#[cycle(print_matrix_print_node_print_nodes_print_one_print_row_print_three_print_two)]
+#[cycle(printer)]
 fn print_three(
     dialect: Dialect,
     k: Three,
@@ -188,7 +188,7 @@ fn print_three(
 }
 
 // Prints a row of n nodes, the first of them at the index a.
-#[cycle(print_matrix_print_node_print_nodes_print_one_print_row_print_three_print_two)]
+#[cycle(printer)]
 fn print_row(
     dialect: Dialect,
     s: &[u8],
@@ -220,7 +220,7 @@ fn print_row(
 }
 
 // Prints a matrix of n nodes, the first of them at the index a.
-#[cycle(print_matrix_print_node_print_nodes_print_one_print_row_print_three_print_two)]
+#[cycle(printer)]
 fn print_matrix(
     dialect: Dialect,
     align: ColumnAlign,
@@ -253,7 +253,7 @@ fn print_matrix(
 }
 
 // Prints n nodes, each the next of the one before, from the index a on; all are below `left`.
-#[cycle(print_matrix_print_node_print_nodes_print_one_print_row_print_three_print_two)]
+#[cycle(printer)]
 pub fn print_nodes(
     dialect: Dialect,
     place: Place,

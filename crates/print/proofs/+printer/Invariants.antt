@@ -1,0 +1,35 @@
+-- The cycle of calls of the printer: a node hands its parts on with `left` less by one, and all others pass `left` on as it is.
+use mathlib.Core.Path.{◌≡◌}
+use Prim.Native.Nat.{◌+◌, ◌*◌}
+use lib.ListN.{length}
+use Rattle.print.proofs.RowLaws.{Going}
+use Rattle.print.proofs.+printer.Given as goal
+
+abbrev pub decreases-print_matrix : goal.decreases-print_matrix
+decreases-print_matrix l = 3 * l.left + 2
+
+abbrev pub decreases-print_node : goal.decreases-print_node
+decreases-print_node l = 3 * l.left
+
+abbrev pub decreases-print_nodes : goal.decreases-print_nodes
+decreases-print_nodes l = 3 * l.left + 1
+
+abbrev pub invariant-print_nodes-loop-todo : goal.invariant-print_nodes-loop-todo
+invariant-print_nodes-loop-todo l =
+    (length l.out ≡ length l.initial.out) × Going l.dialect l.s l.store l.left l.place l.a l.n l.initial.out l.at l.i l.todo l.out l.end
+
+abbrev pub decreases-print_nodes-loop-todo : goal.decreases-print_nodes-loop-todo
+decreases-print_nodes-loop-todo l =
+    l.todo
+
+abbrev pub decreases-print_one : goal.decreases-print_one
+decreases-print_one l = 3 * l.left + 1
+
+abbrev pub decreases-print_row : goal.decreases-print_row
+decreases-print_row l = 3 * l.left + 2
+
+abbrev pub decreases-print_three : goal.decreases-print_three
+decreases-print_three l = 3 * l.left + 1
+
+abbrev pub decreases-print_two : goal.decreases-print_two
+decreases-print_two l = 3 * l.left + 1
