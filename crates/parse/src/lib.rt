@@ -36,7 +36,7 @@ pub enum ParsedNodes {
 }
 
 // A node with the scripts behind it, which takes two calls; a token that stands alone is made a leaf without the second.
-#[cycle(parse_bare_parse_begin_parse_brace_parse_group_parse_left_parse_lim_parse_limits_parse_middle_parse_node_parse_one_parse_single_node_parse_slashed_parse_sqrt_parse_style_parse_two_scripts_second)]
+#[cycle(parser)]
 fn parse_node(s: &[u8], store: &mut [u8], p: Parser, depth: usize, table: &Table) -> ParsedNode
     requires { Ready table.now s.now store.old p }
     ensures { Builds store.old store.new p.made p (parse_node depth s.now p) result }
@@ -58,7 +58,7 @@ fn parse_node(s: &[u8], store: &mut [u8], p: Parser, depth: usize, table: &Table
 }
 
 // A base with the scripts behind it, of which each operand is one single node. The usual operand is made a leaf at once: no second script follows it.
-#[cycle(parse_bare_parse_begin_parse_brace_parse_group_parse_left_parse_lim_parse_limits_parse_middle_parse_node_parse_one_parse_single_node_parse_slashed_parse_sqrt_parse_style_parse_two_scripts_second)]
+#[cycle(parser)]
 fn scripts(
     s: &[u8],
     store: &mut [u8],
@@ -93,7 +93,7 @@ fn scripts(
 }
 
 // A base with its first script x, and with the second where the other mark is next; a repeated mark is refused before its operand is read.
-#[cycle(parse_bare_parse_begin_parse_brace_parse_group_parse_left_parse_lim_parse_limits_parse_middle_parse_node_parse_one_parse_single_node_parse_slashed_parse_sqrt_parse_style_parse_two_scripts_second)]
+#[cycle(parser)]
 fn second(
     s: &[u8],
     store: &mut [u8],
@@ -126,7 +126,7 @@ fn second(
 }
 
 // A node without the scripts behind it, but with a prime.
-#[cycle(parse_bare_parse_begin_parse_brace_parse_group_parse_left_parse_lim_parse_limits_parse_middle_parse_node_parse_one_parse_single_node_parse_slashed_parse_sqrt_parse_style_parse_two_scripts_second)]
+#[cycle(parser)]
 fn parse_single_node(
     s: &[u8],
     store: &mut [u8],
@@ -188,7 +188,7 @@ fn parse_text(s: &[u8], store: &mut [u8], p: Parser, table: &Table) -> ParsedNod
 }
 
 // A node by its first token.
-#[cycle(parse_bare_parse_begin_parse_brace_parse_group_parse_left_parse_lim_parse_limits_parse_middle_parse_node_parse_one_parse_single_node_parse_slashed_parse_sqrt_parse_style_parse_two_scripts_second)]
+#[cycle(parser)]
 fn parse_bare(s: &[u8], store: &mut [u8], p: Parser, depth: usize, table: &Table) -> ParsedNode
     requires { Ready table.now s.now store.old p }
     ensures { Builds store.old store.new p.made p (parse_bare (λ q. parse_node depth s.now q) (λ q. parse_single_node depth s.now q) s.now p.cur.token p) result }
@@ -239,7 +239,7 @@ fn parse_bare(s: &[u8], store: &mut [u8], p: Parser, depth: usize, table: &Table
     }
 }
 
-#[cycle(parse_bare_parse_begin_parse_brace_parse_group_parse_left_parse_lim_parse_limits_parse_middle_parse_node_parse_one_parse_single_node_parse_slashed_parse_sqrt_parse_style_parse_two_scripts_second)]
+#[cycle(parser)]
 fn parse_sqrt(s: &[u8], store: &mut [u8], p: Parser, depth: usize, table: &Table) -> ParsedNode
     requires { Ready table.now s.now store.old p × (p.cur.start + 3 ≤ p.cur.end) }
     ensures { Builds store.old store.new p.made p (parse_sqrt (λ q. parse_node depth s.now q) s.now p) result }
@@ -270,7 +270,7 @@ fn parse_sqrt(s: &[u8], store: &mut [u8], p: Parser, depth: usize, table: &Table
 }
 
 // A command with one operand.
-#[cycle(parse_bare_parse_begin_parse_brace_parse_group_parse_left_parse_lim_parse_limits_parse_middle_parse_node_parse_one_parse_single_node_parse_slashed_parse_sqrt_parse_style_parse_two_scripts_second)]
+#[cycle(parser)]
 fn parse_one(
     s: &[u8],
     store: &mut [u8],
@@ -290,7 +290,7 @@ fn parse_one(
 }
 
 // A command with two operands.
-#[cycle(parse_bare_parse_begin_parse_brace_parse_group_parse_left_parse_lim_parse_limits_parse_middle_parse_node_parse_one_parse_single_node_parse_slashed_parse_sqrt_parse_style_parse_two_scripts_second)]
+#[cycle(parser)]
 fn parse_two(
     s: &[u8],
     store: &mut [u8],
@@ -316,7 +316,7 @@ fn parse_two(
 }
 
 // A brace over or under a target, with an explanation behind the mark.
-#[cycle(parse_bare_parse_begin_parse_brace_parse_group_parse_left_parse_lim_parse_limits_parse_middle_parse_node_parse_one_parse_single_node_parse_slashed_parse_sqrt_parse_style_parse_two_scripts_second)]
+#[cycle(parser)]
 fn parse_brace(
     s: &[u8],
     store: &mut [u8],
@@ -348,7 +348,7 @@ fn parse_brace(
 }
 
 // An operator with what stands below and above it, in either order.
-#[cycle(parse_bare_parse_begin_parse_brace_parse_group_parse_left_parse_lim_parse_limits_parse_middle_parse_node_parse_one_parse_single_node_parse_slashed_parse_sqrt_parse_style_parse_two_scripts_second)]
+#[cycle(parser)]
 fn parse_limits(
     s: &[u8],
     store: &mut [u8],
@@ -386,7 +386,7 @@ fn parse_limits(
 }
 
 // A limit with what stands below it.
-#[cycle(parse_bare_parse_begin_parse_brace_parse_group_parse_left_parse_lim_parse_limits_parse_middle_parse_node_parse_one_parse_single_node_parse_slashed_parse_sqrt_parse_style_parse_two_scripts_second)]
+#[cycle(parser)]
 fn parse_lim(
     s: &[u8],
     store: &mut [u8],
@@ -416,7 +416,7 @@ fn parse_lim(
 }
 
 // A slashed node, whose braces are passed unseen.
-#[cycle(parse_bare_parse_begin_parse_brace_parse_group_parse_left_parse_lim_parse_limits_parse_middle_parse_node_parse_one_parse_single_node_parse_slashed_parse_sqrt_parse_style_parse_two_scripts_second)]
+#[cycle(parser)]
 fn parse_slashed(s: &[u8], store: &mut [u8], p: Parser, depth: usize, table: &Table) -> ParsedNode
     requires { Ready table.now s.now store.old p × (p.cur.start + 3 ≤ p.cur.end) }
     ensures { Builds store.old store.new p.made p (parse_slashed (λ q. parse_node depth s.now q) s.now p) result }
@@ -433,7 +433,7 @@ fn parse_slashed(s: &[u8], store: &mut [u8], p: Parser, depth: usize, table: &Ta
 }
 
 // A node whose letters get a variant.
-#[cycle(parse_bare_parse_begin_parse_brace_parse_group_parse_left_parse_lim_parse_limits_parse_middle_parse_node_parse_one_parse_single_node_parse_slashed_parse_sqrt_parse_style_parse_two_scripts_second)]
+#[cycle(parser)]
 fn parse_style(
     s: &[u8],
     store: &mut [u8],
@@ -456,7 +456,7 @@ fn parse_style(
 }
 
 // A group between two fences.
-#[cycle(parse_bare_parse_begin_parse_brace_parse_group_parse_left_parse_lim_parse_limits_parse_middle_parse_node_parse_one_parse_single_node_parse_slashed_parse_sqrt_parse_style_parse_two_scripts_second)]
+#[cycle(parser)]
 fn parse_left(s: &[u8], store: &mut [u8], p: Parser, depth: usize, table: &Table) -> ParsedNode
     requires { Ready table.now s.now store.old p × (p.cur.start + 3 ≤ p.cur.end) }
     ensures { Builds store.old store.new p.made p (parse_left (λ q. parse_node depth s.now q) s.now p) result }
@@ -479,7 +479,7 @@ fn parse_left(s: &[u8], store: &mut [u8], p: Parser, depth: usize, table: &Table
 }
 
 // A stretched operator.
-#[cycle(parse_bare_parse_begin_parse_brace_parse_group_parse_left_parse_lim_parse_limits_parse_middle_parse_node_parse_one_parse_single_node_parse_slashed_parse_sqrt_parse_style_parse_two_scripts_second)]
+#[cycle(parser)]
 fn parse_middle(s: &[u8], store: &mut [u8], p: Parser, depth: usize, table: &Table) -> ParsedNode
     requires { Ready table.now s.now store.old p × (p.cur.start + 3 ≤ p.cur.end) }
     ensures { Builds store.old store.new p.made p (parse_middle (λ q. parse_single_node depth s.now q) s.now p) result }
@@ -492,7 +492,7 @@ fn parse_middle(s: &[u8], store: &mut [u8], p: Parser, depth: usize, table: &Tab
 }
 
 // An environment, which is looked up after its content is read; the name behind `\end` is passed unseen.
-#[cycle(parse_bare_parse_begin_parse_brace_parse_group_parse_left_parse_lim_parse_limits_parse_middle_parse_node_parse_one_parse_single_node_parse_slashed_parse_sqrt_parse_style_parse_two_scripts_second)]
+#[cycle(parser)]
 fn parse_begin(s: &[u8], store: &mut [u8], p: Parser, depth: usize, table: &Table) -> ParsedNode
     requires { Ready table.now s.now store.old p × (p.cur.start + 3 ≤ p.cur.end) }
     ensures { Builds store.old store.new p.made p (parse_begin (λ q. parse_node depth s.now q) s.now p) result }
@@ -515,7 +515,7 @@ fn parse_begin(s: &[u8], store: &mut [u8], p: Parser, depth: usize, table: &Tabl
 }
 
 // The nodes up to a token, as one node.
-#[cycle(parse_bare_parse_begin_parse_brace_parse_group_parse_left_parse_lim_parse_limits_parse_middle_parse_node_parse_one_parse_single_node_parse_slashed_parse_sqrt_parse_style_parse_two_scripts_second)]
+#[cycle(parser)]
 fn parse_group(
     s: &[u8],
     store: &mut [u8],
