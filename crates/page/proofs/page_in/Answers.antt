@@ -25,15 +25,15 @@ put-requires c =
 
 pub returns-then-n-draft : goal.returns-then-n-draft
 returns-then-n-draft c =
-    (pages_copied c.args.manner c.args.document.now (length c.args.store.now) (length c.args.work.now) c.args.out.now c.requires.0 c.draft_page-totals.ensures (omega (arith, c.well-formed.1.1.1.1.0.0)) c.if-out-n.false c.if-n-draft.true _ c.put.ensures, c.draft_page-totals.auto.store, c.draft_page-totals.auto.work)
+    (pages_copied c.args.manner c.args.document.now (length c.args.store.now) (length c.args.work.now) c.args.out.now c.requires.0 c.draft_page-totals.ensures (omega (arith, c.well_formed.1.1.1.1.0.0)) c.if-out-n.false c.if-n-draft.true _ c.put.ensures, c.draft_page-totals.auto.store, c.draft_page-totals.auto.work)
 
 pub write_page-requires : goal.write_page-requires
 write_page-requires c =
     let h = c.draft_page-totals.ensures in
     let q = c.draft_page-totals.auto in
-    rw (q.1.1.0, q.1.1.1.0) (h.marked, record { small = omega (arith, h.long); inside = λ e. omega (arith, h.long) }, c.table-commands.ensures)
+    rw (q.store, q.work) (h.marked, record { small = omega (arith, h.long); inside = λ e. omega (arith, h.long) }, c.table-commands.ensures)
 
 pub returns : goal.returns
 returns c =
     let q = c.draft_page-totals.auto in
-    (pages_written c.args.manner c.args.document.now (length c.args.store.now) (length c.args.work.now) c.args.out.now c.requires.0 c.draft_page-totals.ensures c.if-out-n.false (rw (q.1.1.0, q.1.1.1.0) at c.write_page.ensures), c.write_page.auto.store ∙ c.draft_page-totals.auto.store, c.write_page.auto.work ∙ c.draft_page-totals.auto.work)
+    (pages_written c.args.manner c.args.document.now (length c.args.store.now) (length c.args.work.now) c.args.out.now c.requires.0 c.draft_page-totals.ensures c.if-out-n.false (rw (q.store, q.work) at c.write_page.ensures), c.write_page.auto.store ∙ c.draft_page-totals.auto.store, c.write_page.auto.work ∙ c.draft_page-totals.auto.work)

@@ -11,7 +11,7 @@ pub returns-then-mark-eq0 : goal.returns-then-mark-eq0
 returns-then-mark-eq0 c =
     let a = c.args in
     let q = c.lay_replacement-answer.ensures in
-    drafted_replaced a.manner a.p.now (length a.store.now) (length a.work.now) a.draft.now c.lay_replacement-answer.new.out a.left.now a.at a.k c.lay_replacement-answer.result c.mark_of-mark.result c.end_of_lem.result c.mark_of-mark.ensures c.if-mark-eq0.true c.end_of_lem.ensures q.0 q.1
+    drafted_replaced a.manner a.p.now (length a.store.now) (length a.work.now) a.draft.now c.lay_replacement-answer.new.out a.left.now a.at a.k c.lay_replacement-answer.result c.mark_of-mark.result c.end_of.result c.mark_of-mark.ensures c.if-mark-eq0.true c.end_of.ensures q.0 q.1
 
 pub lay-requires : goal.lay-requires
 lay-requires c =

@@ -40,7 +40,7 @@ overflow_add-k c =
     let i = c.loop-manner.invariant in
     let b = c.next_break-e.ensures in
     let mark = writing_mark c.requires.1 i.3 c.next_break-e.result b.0 b.2 in
-    omega (arith, c.well-formed.1.1.1.1.1.0.0)
+    omega (arith, c.well_formed.1.1.1.1.1.0.0)
 
 pub loop-manner-smaller : goal.loop-manner-smaller
 loop-manner-smaller c =
@@ -57,4 +57,4 @@ loop-manner-preserved c =
     let d = c.break_end-from.ensures in
     let p = rw (i.0, i.1) at c.write_paragraph-at.ensures in
     let q = c.write_paragraph-at.auto in
-    (q.1.1.0 ∙ i.0, q.1.1.1.0 ∙ i.1, c.put-at.auto.out ∙ q.1.1.1.1.0 ∙ i.2, writing_more c.requires.1 i.3 c.next_break-e.result b.0 b.2 p c.break_end-from.result (omega arith) d.0 d.2 c.put-at.ensures)
+    (q.store ∙ i.0, q.work ∙ i.1, c.put-at.auto.out ∙ q.out ∙ i.2, writing_more c.requires.1 i.3 c.next_break-e.result b.0 b.2 p c.break_end-from.result (omega arith) d.0 d.2 c.put-at.ensures)
