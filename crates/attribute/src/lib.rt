@@ -1,4 +1,6 @@
 // The attributes of MathML elements: the Rust's attribute.rs, and `DisplayStyle` of its lib.rs.
+#![tactic(auto)]
+
 pub mod codes;
 
 ghost use Rattle.std.specs.Prelude.{◌≡◌, length};

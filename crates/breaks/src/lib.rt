@@ -1,4 +1,6 @@
 // The breaks of a document: where the next one begins, where it ends, and how many paragraphs there are between them.
+#![tactic(auto)]
+
 ghost use Rattle.std.specs.Prelude.{◌≡◌, ◌&&◌, ◌+◌, ◌≤◌, length, drop};
 ghost use Rattle.dollars.specs.Places.{next_place};
 ghost use Rattle.breaks.specs.Breaks.{line_feed, line_end, two_line_ends, no_line_end};

@@ -1,6 +1,6 @@
 -- The number of each refusal, and what each answer of an operation returns.
 -- Assumes nothing.
-use Rattle.std.specs.Prelude.{List, [], ℕ}
+use Rattle.std.specs.Prelude.{ℕ}
 use Rattle.error.specs.declared.Refusal.{Refusal}
 use Rattle.error.specs.declared.Refusal.TheVariants.{
   TooLong,

@@ -1,4 +1,5 @@
 // Why an operation refuses: the Rust's error.rs, whose `LatexError` is some of these, each with its number, of document 01 or of a request of document 02.
+#![tactic(auto)]
 
 #[derive(Clone, Copy)]
 pub enum Refusal {

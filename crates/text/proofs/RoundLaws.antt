@@ -1,17 +1,17 @@
 -- The character at the head of well-formed bytes is spelled by the bytes that it takes.
 -- Assumes nothing.
-use mathlib.Core.Path.{◌≡◌, refl, sym, ap, ◌∙◌, subst}
+use mathlib.Core.Path.{◌≡◌, refl, ◌∙◌, subst}
 use mathlib.Core.Bool.{Bool, true, false, ◌&&◌, and-eq-true_iff}
-use mathlib.Core.List.{List, [], ◌∷◌, ◌++◌}
+use mathlib.Core.List.{List, [], ◌∷◌}
 use mathlib.Core.Option.{Option, none, some}
-use Prim.Native.Nat.{ℕ, suc, ◌+◌, ◌-◌, ◌*◌, ◌/◌, ◌%◌, ◌≤◌, ◌<◌}
+use Prim.Native.Nat.{ℕ, ◌+◌, ◌-◌, ◌*◌, ◌/◌, ◌%◌, ◌≤◌}
 use native.Mathlib.Omega.{arith}
-use lib.Dec.{leb, ltb}
+use lib.Dec.{leb}
 use lib.ListN.{length, take}
 use borrow.Author.Tests.{leb-true}
 use Rattle.text.specs.Utf8.{Range, table, within, follow, goes_on, well_formed, begins, value, lead, encode, code_point}
 use Rattle.text.proofs.Cases.{both, never}
-use Rattle.text.proofs.Utf8Laws.{every, bounds, Found, found}
+use Rattle.text.proofs.Utf8Laws.{bounds, found}
 use Rattle.text.proofs.EncodeLaws.{encode_1, encode_2, encode_3, encode_4}
 
 two_back : (b c : ℕ) → 0xc2 ≤ b → b ≤ 0xdf → 0x80 ≤ c → c ≤ 0xbf → encode ((b - 0xc0) * 64 + (c - 0x80)) ≡ b ∷ c ∷ []

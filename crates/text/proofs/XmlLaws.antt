@@ -1,16 +1,15 @@
 -- A character escaped for XML, and the places of a body without a forbidden character.
 -- Assumes nothing.
-use mathlib.Core.Path.{◌≡◌, refl, sym, ap, ◌∙◌}
+use mathlib.Core.Path.{◌≡◌, refl}
 use mathlib.Core.Bool.{Bool, true, false, not, ◌||◌}
 use mathlib.Core.List.{List, [], ◌∷◌, ◌++◌, append_assoc}
 use mathlib.Core.Option.{Option, none, some}
 use Prim.Native.Nat.{ℕ, zero, suc, ◌+◌, ◌-◌, ◌*◌, ◌≤◌, ◌<◌}
 use native.Mathlib.Omega.{arith}
 use lib.Dec.{eqb, leb}
-use lib.ListN.{length, take, drop, get_or}
+use lib.ListN.{length, take, drop}
 use borrow.Author.Tests.{leb-true, ne_eqb, le-leb, lt-leb}
 use Rattle.text.specs.Utf8.{Range, table, within, follow, begins, value, lead, encode, code_point}
-use Rattle.text.specs.Text.{bytes}
 use Rattle.text.proofs.Cases.{both, never, by_test, by_order}
 use Rattle.text.proofs.EncodeLaws.{encode_1, encode_2, encode_3, encode_4}
 use Rattle.text.proofs.FollowLaws.{byte_at}

@@ -1,6 +1,6 @@
 -- Worked examples, which antt computes.
 -- Assumes nothing.
-use Rattle.std.specs.Prelude.{◌≡◌, refl, Bool, true, false, List, [], ◌∷◌, map, ℕ}
+use Rattle.std.specs.Prelude.{◌≡◌, refl, true, false, [], ◌∷◌, map}
 use Rattle.text.specs.Utf8.{table, follow, goes_on, well_formed, begins, value, lead, code_point, encode}
 use Rattle.text.specs.Text.{bytes}
 use Rattle.text.specs.Put.{digits, unpacked}

@@ -1,4 +1,6 @@
 // UTF-8 text as bytes: the Rust's `Chars` and `str`.
+#![tactic(auto)]
+
 pub mod put;
 pub mod xml;
 

@@ -1,6 +1,6 @@
 -- The arms, the fixed texts and the Debug texts without a dollar.
 -- Assumes nothing.
-use Rattle.std.specs.Prelude.{◌≡◌, ℕ, true, false, eqb, ltb, List}
+use Rattle.std.specs.Prelude.{◌≡◌, ℕ, true, eqb, ltb, List}
 use mathlib.Core.Path.{refl}
 use mathlib.Core.Bool.{false≢true, and-eq-true_iff}
 use mathlib.Core.List as L

@@ -3,7 +3,7 @@
 -- Assumes nothing.
 use Rattle.std.specs.Prelude.{List, [], ◌∷◌}
 use Prim.Native.Char.{code}
-use Rattle.attribute.specs.declared.Variant.TheVariants.{Normal, Italic, Bold, BoldItalic, DoubleStruck, BoldFraktur, Script, BoldScript, Fraktur, SansSerif, BoldSansSerif, SansSerifItalic, SansSerifBoldItalic, Monospace}
+use Rattle.attribute.specs.declared.Variant.TheVariants.{Normal, Italic, Bold, BoldItalic, DoubleStruck, Script, Fraktur, SansSerif, Monospace}
 use Rattle.attribute.specs.declared.Accent.TheVariants.{True}
 use Rattle.attribute.specs.declared.DisplayStyle.TheVariants.{Block, Inline}
 use Rattle.token.specs.declared.Binomial.TheVariants.{Plain, Styled}

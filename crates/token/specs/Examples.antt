@@ -1,6 +1,6 @@
 -- Worked examples, which antt computes.
 -- Assumes nothing.
-use Rattle.std.specs.Prelude.{◌≡◌, ℕ, List, [], ◌∷◌, map, length}
+use Rattle.std.specs.Prelude.{◌≡◌, [], ◌∷◌, map, length}
 use Rattle.std.specs.Prelude.{refl}
 use Prim.Native.Char.{code}
 use Rattle.text.specs.Text.{bytes}
@@ -8,7 +8,6 @@ use Rattle.text.specs.Xml.{xml_escape, xml_text, in_text}
 use Rattle.text.specs.Examples.{text_opens}
 use Rattle.text.specs.declared.Dialect.{Dialect}
 use Rattle.token.specs.declared.Token.{Token}
-use Rattle.token.specs.declared.Undefined.{Undefined}
 use Rattle.token.specs.Texts.{texts, widths, printed_widths, text, text_of, text_in, width, width_of}
 use Rattle.token.specs.Arms.{arms}
 use Rattle.token.specs.Command.{own_arms, from_command, operator_in, as_old, acts_on_a_digit}

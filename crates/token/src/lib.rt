@@ -1,5 +1,7 @@
 // The tokens of LaTeX: the Rust's token.rs. A character is its code point, a string is the number of a fixed text, or the
 // place of its first byte in the body and the place after its last.
+#![tactic(auto)]
+
 pub mod debug;
 pub mod table;
 pub mod texts;

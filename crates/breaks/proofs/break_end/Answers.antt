@@ -1,5 +1,4 @@
 use mathlib.Core.Path.{refl, sym, ◌∙◌}
-use Prim.Native.Nat.{◌-◌}
 use Rattle.breaks.proofs.BreakLaws.{end_here, end_past}
 use native.Mathlib.Omega.{arith}
 use Rattle.breaks.proofs.break_end.Goals as goal

@@ -1,4 +1,3 @@
-use Prim.Native.Nat.{◌-◌}
 use native.Mathlib.Omega.{arith}
 use Rattle.breaks.proofs.CountLaws.{counting_last, counting_more}
 use Rattle.breaks.proofs.count_paragraphs.Goals as goal

@@ -1,5 +1,4 @@
 use mathlib.Core.Path.{refl, sym, ◌∙◌}
-use Prim.Native.Nat.{◌-◌}
 use Rattle.breaks.proofs.BreakLaws.{blank_here, blank_more, blank_none}
 use native.Mathlib.Omega.{arith}
 use Rattle.breaks.proofs.next_blank.Goals as goal

@@ -1,5 +1,4 @@
 use mathlib.Core.Path.{refl, sym, ◌∙◌}
-use Prim.Native.Nat.{◌-◌}
 use lib.Dec.{eqb}
 use borrow.Author.Tests.{eq-eqb, ne_eqb}
 use Rattle.text.proofs.AnyLaws.{any_here, any_more, any_end}
@@ -18,13 +17,13 @@ loop-i-preserved c =
     let inside = c.loop-i-test.true in
     let here = c.is_unusual.ensures in (
       l.invariant.0 ∙ elim c.if-is_unusual.branch [
-          then-is_unusual x ↦ rw x.unusual-is (any_here unusual s l.i l.unusual inside (sym here ∙ x.if-is_unusual.true))
-          | else-is_unusual x ↦ rw x.unusual-is (any_more unusual s l.i l.unusual inside (sym here ∙ x.if-is_unusual.false))
-          ],
+        | then-is_unusual x ↦ rw x.unusual-is (any_here unusual s l.i l.unusual inside (sym here ∙ x.if-is_unusual.true))
+        | else-is_unusual x ↦ rw x.unusual-is (any_more unusual s l.i l.unusual inside (sym here ∙ x.if-is_unusual.false))
+      ],
       l.invariant.1 ∙ elim c.if-s-i-eq36.branch [
-          then-s-i-eq36 x ↦ rw x.dollar-is (any_here (λ b. eqb b 36) s l.i l.dollar inside (eq-eqb _ _ x.if-s-i-eq36.true))
-          | else-s-i-eq36 x ↦ rw x.dollar-is (any_more (λ b. eqb b 36) s l.i l.dollar inside (ne_eqb _ _ x.if-s-i-eq36.false))
-          ],
+        | then-s-i-eq36 x ↦ rw x.dollar-is (any_here (λ b. eqb b 36) s l.i l.dollar inside (eq-eqb _ _ x.if-s-i-eq36.true))
+        | else-s-i-eq36 x ↦ rw x.dollar-is (any_more (λ b. eqb b 36) s l.i l.dollar inside (ne_eqb _ _ x.if-s-i-eq36.false))
+      ],
     )
 
 pub returns-then-unusual : goal.returns-then-unusual

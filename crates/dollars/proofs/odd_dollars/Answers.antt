@@ -1,5 +1,4 @@
 use mathlib.Core.Path.{sym, ◌∙◌}
-use Prim.Native.Nat.{◌-◌}
 use Rattle.dollars.proofs.DollarLaws.{odd_here, odd_past, odd_end, false_xor}
 use Rattle.dollars.proofs.odd_dollars.Goals as goal
 use Rattle.dollars.proofs.odd_dollars.Goals.{then-s-i-eq36, else-s-i-eq36}
@@ -13,8 +12,8 @@ loop-i-preserved c =
     let l = c.loop-i in
     let inside = c.loop-i-test.true in
     l.invariant ∙ elim c.if-s-i-eq36.branch [
-    then-s-i-eq36 x ↦ rw x.is_odd-is (odd_here s l.i l.is_odd inside x.if-s-i-eq36.true)
-    | else-s-i-eq36 x ↦ rw x.is_odd-is (odd_past s l.i l.is_odd inside x.if-s-i-eq36.false)
+      | then-s-i-eq36 x ↦ rw x.is_odd-is (odd_here s l.i l.is_odd inside x.if-s-i-eq36.true)
+      | else-s-i-eq36 x ↦ rw x.is_odd-is (odd_past s l.i l.is_odd inside x.if-s-i-eq36.false)
     ]
 
 pub returns : goal.returns

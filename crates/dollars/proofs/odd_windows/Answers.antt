@@ -1,5 +1,4 @@
 use mathlib.Core.Path.{sym, ◌∙◌}
-use Prim.Native.Nat.{◌-◌}
 use Rattle.dollars.specs.Dollars.{two_dollars}
 use Rattle.dollars.proofs.DollarLaws.{odd_none, odd_next, false_xor}
 use native.Mathlib.Omega.{arith}

@@ -1,5 +1,4 @@
 use mathlib.Core.Path.{refl, sym, ◌∙◌}
-use Prim.Native.Nat.{◌-◌}
 use Rattle.dollars.proofs.DollarLaws.{three_none, three_here, three_more}
 use native.Mathlib.Omega.{arith}
 use Rattle.dollars.proofs.three_dollars.Goals as goal

@@ -1,5 +1,4 @@
 use mathlib.Core.Path.{refl, sym, ◌∙◌}
-use Prim.Native.Nat.{◌-◌}
 use lib.Dec.{eqb}
 use borrow.Author.Tests.{eq-eqb, ne_eqb}
 use Rattle.text.proofs.AnyLaws.{any_here, any_more, any_end}
@@ -25,8 +24,8 @@ loop-i-preserved c =
     let l = c.loop-i in
     let inside = c.loop-i-test.true in
     l.invariant ∙ elim c.if-s-i.branch [
-    then-s-i x ↦ rw x.found-is (any_here (λ b. eqb b a.b) a.s.now l.i l.found inside (eq-eqb _ _ x.if-s-i.true))
-    | else-s-i x ↦ rw x.found-is (any_more (λ b. eqb b a.b) a.s.now l.i l.found inside (ne_eqb _ _ x.if-s-i.false))
+      | then-s-i x ↦ rw x.found-is (any_here (λ b. eqb b a.b) a.s.now l.i l.found inside (eq-eqb _ _ x.if-s-i.true))
+      | else-s-i x ↦ rw x.found-is (any_more (λ b. eqb b a.b) a.s.now l.i l.found inside (ne_eqb _ _ x.if-s-i.false))
     ]
 
 pub returns : goal.returns

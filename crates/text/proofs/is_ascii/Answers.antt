@@ -1,6 +1,5 @@
 use mathlib.Core.Path.{refl, sym, ◌∙◌, ap}
 use mathlib.Core.Bool.{not}
-use Prim.Native.Nat.{◌-◌}
 use lib.Dec.{ltb}
 use borrow.Author.Tests.{lt-ltb, le-ltb}
 use Rattle.text.proofs.AnyLaws.{any_here, any_more, any_end}
@@ -26,8 +25,8 @@ loop-i-preserved c =
     let l = c.loop-i in
     let inside = c.loop-i-test.true in
     l.invariant ∙ elim c.if-s-i-gt127.branch [
-    then-s-i-gt127 x ↦ rw x.found-is (any_here (ltb 127) s l.i l.found inside (lt-ltb _ _ x.if-s-i-gt127.true))
-    | else-s-i-gt127 x ↦ rw x.found-is (any_more (ltb 127) s l.i l.found inside (le-ltb _ _ x.if-s-i-gt127.false))
+      | then-s-i-gt127 x ↦ rw x.found-is (any_here (ltb 127) s l.i l.found inside (lt-ltb _ _ x.if-s-i-gt127.true))
+      | else-s-i-gt127 x ↦ rw x.found-is (any_more (ltb 127) s l.i l.found inside (le-ltb _ _ x.if-s-i-gt127.false))
     ]
 
 pub returns : goal.returns

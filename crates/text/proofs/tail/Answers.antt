@@ -1,5 +1,4 @@
 use mathlib.Core.Path.{refl, sym, ◌∙◌}
-use Prim.Native.Nat.{◌≤◌}
 use native.Mathlib.Numerals.{add-one}
 use lib.Dec.{lit≤}
 use Rattle.text.specs.Utf8.{◌to◌}
@@ -35,8 +34,7 @@ overflow_add-value c =
     omega (arith, room_more c.loop-left.left c.loop-left.value c.wide.result c.loop-left-test.true c.loop-left.invariant.2 c.wide.ensures.1)
 
 pub loop-left-preserved : goal.loop-left-preserved
-loop-left-preserved c =
-    (
+loop-left-preserved c = (
   c.loop-left.invariant.0 ∙ rw c.wide.ensures.0 (read_more _ _ _ _ _ _ _ c.loop-left-test.true c.if-s-i.false (inside (c.loop-left.from to c.loop-left.last) _ c.if-b-from.false c.if-last-b.false)),
   λ h. lit≤ tt,
   (room_more _ _ _ c.loop-left-test.true c.loop-left.invariant.2 c.wide.ensures.1).0,

@@ -1,7 +1,6 @@
 use mathlib.Core.Path.{refl, sym, ◌∙◌}
 use mathlib.Core.List.{[]}
 use mathlib.Core.Option.{some}
-use Prim.Native.Nat.{◌-◌}
 use lib.ListN.{drop_of_length-le}
 use Rattle.text.specs.Utf8.{well_formed}
 use Rattle.text.specs.Follow.{ranges}

@@ -1,4 +1,3 @@
-use Rattle.std.specs.Prelude.{◌-◌}
 use mathlib.Core.Path.{sym, ◌∙◌}
 use Rattle.token.specs.Table.{size}
 use Rattle.token.specs.Key.{key, start}

@@ -1,5 +1,4 @@
 use mathlib.Core.Path.{refl, sym, ◌∙◌}
-use Prim.Native.Nat.{◌-◌}
 use Rattle.dollars.specs.Search.{starts_with}
 use Rattle.dollars.proofs.PlaceLaws.{next_here, next_more, next_end}
 use Rattle.dollars.proofs.SearchLaws.{starts_is, starts_not}

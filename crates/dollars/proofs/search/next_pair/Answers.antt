@@ -1,5 +1,4 @@
 use mathlib.Core.Path.{refl, sym, ◌∙◌}
-use Prim.Native.Nat.{◌-◌}
 use native.Mathlib.Omega.{arith}
 use Rattle.dollars.proofs.SearchLaws.{pair_here, pair_more, pair_none}
 use Rattle.dollars.proofs.search.next_pair.Goals as goal

@@ -1,5 +1,4 @@
 use mathlib.Core.Path.{refl, sym, ◌∙◌, ap}
-use Prim.Native.Nat.{◌-◌}
 use native.Mathlib.Omega.{arith}
 use Rattle.text.specs.Any.{contains}
 use Rattle.dollars.proofs.SearchLaws.{passed}

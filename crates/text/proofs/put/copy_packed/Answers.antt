@@ -1,4 +1,3 @@
-use Prim.Native.Nat.{◌-◌}
 use Rattle.text.proofs.PutLaws.{packing_none, packing_more, packing_all}
 use native.Mathlib.Omega.{arith}
 use Rattle.text.proofs.put.copy_packed.Goals as goal

@@ -1,5 +1,5 @@
 use mathlib.Core.Path.{refl, sym, ap, ◌∙◌}
-use Prim.Native.Nat.{◌≤◌, ◌-◌}
+use Prim.Native.Nat.{◌≤◌}
 use lib.ListN.{length, drop_of_length-le}
 use Rattle.text.specs.Xml.{allows, forbidden}
 use Rattle.text.proofs.XmlLaws.{here_forbidden, next_forbidden}

@@ -1,4 +1,4 @@
-use Rattle.std.specs.Prelude.{◌+◌, ◌-◌, ◌≤◌, get_or}
+use Rattle.std.specs.Prelude.{◌+◌, ◌≤◌, get_or}
 use Rattle.text.specs.Text.{part}
 use Rattle.text.specs.Xml.{in_text}
 use Rattle.text.proofs.PutLaws.{putting_none, putting_room, putting_more, putting_all, putting_length}
