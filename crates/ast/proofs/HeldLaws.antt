@@ -1,7 +1,6 @@
 -- A tree stays where its records stay, whatever else changes in the store.
 -- Assumes nothing.
-use mathlib.Core.Path.{◌≡◌, refl, sym, ap, ◌∙◌}
-use mathlib.Core.Bool.{Bool}
+use mathlib.Core.Path.{◌≡◌, ap, ◌∙◌}
 use mathlib.Core.List.{List}
 use mathlib.Core.Option.{Option, none, some}
 use Prim.Native.Nat.{ℕ, suc, ◌≤◌, ◌<◌}
@@ -10,10 +9,10 @@ use native.Mathlib.Nat.{le_refl}
 use Rattle.ast.specs.declared.Leaf.{Leaf}
 use Rattle.ast.specs.declared.Record.{Record}
 use Rattle.ast.specs.declared.Shape.{Shape}
-use Rattle.ast.specs.Shape.{fields, fields_of, shape_of, role_of}
+use Rattle.ast.specs.Shape.{fields_of, shape_of, role_of}
 use Rattle.ast.specs.Store.{record_at}
 use Rattle.ast.specs.Tree.{Node, leaf, one, two, three, row, matrix, Nodes, empty, ◌then◌}
-use Rattle.ast.specs.Held.{Stands, Fills, Beside, in_order, swapped, HoldsOne, HoldsTwo, HoldsThree, Link, Rowed, Roof, Roofed, count, operand_of, Before, is_row, row_at, Holds, HoldsAll, FillsTree}
+use Rattle.ast.specs.Held.{Stands, Fills, Beside, in_order, swapped, Roof, operand_of, Before, is_row, row_at, Holds, HoldsAll, FillsTree}
 
 -- r' is r but for the next sibling
 pub record SameBut (r r' : Record) : Type 0 where

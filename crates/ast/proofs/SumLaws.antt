@@ -4,26 +4,24 @@ use mathlib.Core.Path.{◌≡◌, refl, sym, ap, ◌∙◌}
 use mathlib.Core.Bool.{Bool, true, false}
 use mathlib.Core.List.{List}
 use mathlib.Core.Option.{Option, none, some}
-use Prim.Native.Nat.{ℕ, zero, suc, ◌+◌, ◌-◌, ◌≤◌, ◌<◌}
+use Prim.Native.Nat.{ℕ, suc, ◌+◌, ◌≤◌, ◌<◌}
 use native.Mathlib.Omega.{arith}
 use native.Mathlib.Nat.{le_refl}
-use lib.Dec.{ltb}
 use borrow.Author.Tests.{lt-ltb, le-ltb}
 use Rattle.text.proofs.Cases.{never}
 use Rattle.attribute.specs.declared.ColumnAlign.{ColumnAlign}
 use Rattle.ast.specs.declared.Stretched.{Stretched}
 use Rattle.ast.specs.declared.Leaf.{Leaf}
 use Rattle.ast.specs.declared.One.{One}
-use Rattle.ast.specs.declared.Role.{Role}
 use Rattle.ast.specs.declared.Shape.{Shape}
 use Rattle.ast.specs.declared.Fate.{Fate}
-use Rattle.ast.specs.Shape.{fields, fields_of, shape_of, leaf_role, role_of}
+use Rattle.ast.specs.Shape.{shape_of, leaf_role, role_of}
 use Rattle.ast.specs.Store.{record_at}
 use Rattle.ast.specs.Tree.{Node, leaf, one, two, three, row, matrix, Nodes, empty, ◌then◌}
-use Rattle.ast.specs.Held.{Stands, Fills, Beside, in_order, swapped, Roof, count, operand_of, Before, is_row, row_at, Holds, HoldsAll, FillsTree}
-use Rattle.ast.specs.Sum.{Weigh, leaf_or, is_mark, either, mark_or, cell_or, part_sum, tree_sum, tree_sums, cell_sums, shape_at, operand_fate, part_fate, fate, fate_at, mark_sum, cells, own_sum, own_taken, added_by, taken_by, added, taken, store_sum}
+use Rattle.ast.specs.Held.{Stands, Beside, in_order, swapped, Roof, count, operand_of, Before, is_row, row_at, Holds, HoldsAll, FillsTree}
+use Rattle.ast.specs.Sum.{Weigh, leaf_or, is_mark, either, cell_or, part_sum, tree_sum, tree_sums, cell_sums, shape_at, operand_fate, fate, fate_at, mark_sum, cells, own_sum, own_taken, added_by, taken_by, added, taken, store_sum}
 use Rattle.ast.proofs.ShapeLaws.{shape_back}
-use Rattle.ast.proofs.KindLaws.{kind_of, shape_held}
+use Rattle.ast.proofs.KindLaws.{shape_held}
 use Rattle.ast.proofs.HeldLaws.{low_all, beside_low, tree_low}
 
 -- a leaf that was an operand is of none, and drops nothing

@@ -1,6 +1,6 @@
 -- The records of a store: what stands at an index, and what putting one there changes.
 -- Assumes nothing.
-use Rattle.std.specs.Prelude.{◌≡◌, List, ℕ, ◌+◌, ◌*◌, ◌^◌, ◌≤◌, ◌<◌, get_or}
+use Rattle.std.specs.Prelude.{◌≡◌, List, ℕ, ◌+◌, ◌*◌, ◌≤◌, ◌<◌, get_or}
 use Rattle.ast.specs.declared.Record.{Record}
 
 -- the number in two bytes from o on, the low byte first, and in four

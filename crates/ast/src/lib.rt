@@ -12,6 +12,8 @@
 //     bytes 14..18   the place after the last in the body, or the number of a second text
 //     bytes 18..20   unused
 //     bytes 20..24   kept free for a span
+#![tactic(auto)]
+
 pub mod codes;
 pub mod rows;
 pub mod store;

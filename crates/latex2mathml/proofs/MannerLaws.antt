@@ -1,7 +1,7 @@
 -- What an accepted body says, test by test, and so of its answer in the other dialect.
 -- Assumes nothing.
-use mathlib.Core.Path.{◌≡◌, refl}
-use mathlib.Core.Bool.{Bool, true, false, not, ◌&&◌}
+use mathlib.Core.Path.{◌≡◌}
+use mathlib.Core.Bool.{false, not, ◌&&◌}
 use mathlib.Core.List.{List}
 use Prim.Native.Nat.{ℕ}
 use lib.Dec.{ltb}
@@ -17,7 +17,7 @@ use Rattle.ast.specs.Tree.{Nodes}
 use Rattle.markup.specs.Print.{print_all}
 use Rattle.parser.specs.Parse.{parse}
 use Rattle.latex2mathml.specs.declared.Manner.{Manner}
-use Rattle.latex2mathml.specs.Outcome.{Outcome, accepted, refused, ◌>>=◌, refuse, body_limit, depth_limit}
+use Rattle.latex2mathml.specs.Outcome.{accepted, ◌>>=◌, refuse, body_limit, depth_limit}
 use Rattle.latex2mathml.specs.Manner.{old, strict, is_strict}
 use Rattle.latex2mathml.specs.Translate.{outcome, read_body, convert_content, in_math, latex_to_mathml, store_too_small, translate}
 use Rattle.latex2mathml.specs.Related.{AsStrict, AsOld, Related}

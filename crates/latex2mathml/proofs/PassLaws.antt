@@ -2,25 +2,23 @@
 -- Assumes nothing.
 use mathlib.Core.Path.{◌≡◌, refl, sym, ◌∙◌, ap}
 use mathlib.Core.Bool.{Bool, true, false}
-use mathlib.Core.List.{List, [], ◌∷◌, ◌++◌, append_assoc}
+use mathlib.Core.List.{List, [], ◌++◌, append_assoc}
 use Prim.Native.Nat.{ℕ, ◌+◌, ◌-◌, ◌*◌, ◌^◌, ◌≤◌, ◌<◌}
 use native.Mathlib.Omega.{arith}
 use native.Mathlib.Nat.{min-le_left}
-use lib.Dec.{ltb}
 use lib.ListN.{length, drop, length-append, length-take, length-drop}
 use lib.Seq.{take_all}
 use Rattle.text.specs.Text.{part}
-use Rattle.text.specs.Put.{Room}
 use Rattle.text.proofs.Cases.{never}
 use Rattle.attribute.specs.declared.DisplayStyle.{DisplayStyle}
 use Rattle.error.specs.declared.Refusal.{Refusal}
 use Rattle.latex2mathml.specs.declared.Answer.{Answer}
 use Rattle.latex2mathml.specs.declared.Manner.{Manner}
 use Rattle.latex2mathml.specs.Outcome.{Outcome, accepted, refused, ◌>>=◌}
-use Rattle.dollars.specs.Dollars.{three_dollars, mark, width}
+use Rattle.dollars.specs.Dollars.{mark, width}
 use Rattle.dollars.specs.Places.{places, odd, next_place}
 use Rattle.latex2mathml.specs.Replace.{translate_body, substitute}
-use Rattle.latex2mathml.specs.Laid.{Laid, LaidThere, Lays, RoomFor, Fits, passed, growth, Passable, AtMost}
+use Rattle.latex2mathml.specs.Laid.{Laid, Lays, RoomFor, Fits, passed, growth, AtMost}
 use Rattle.latex2mathml.proofs.TranslateLaws.{translated_short}
 use Rattle.latex2mathml.proofs.LayLaws.{laid_nothing, laid_more, front_less}
 use Rattle.dollars.proofs.PlaceLaws.{places_none}

@@ -1,19 +1,19 @@
 -- What the translation of a body gives, test by test.
 -- Assumes nothing.
-use mathlib.Core.Path.{◌≡◌, refl, sym, ◌∙◌, ap}
-use mathlib.Core.Bool.{Bool, true, false, not, ◌&&◌}
-use mathlib.Core.List.{List, [], ◌++◌}
-use Prim.Native.Nat.{ℕ, ◌+◌, ◌*◌, ◌/◌, ◌^◌, ◌≤◌, ◌<◌}
+use mathlib.Core.Path.{◌≡◌, refl, ◌∙◌}
+use mathlib.Core.Bool.{Bool, true, false, ◌&&◌}
+use mathlib.Core.List.{List}
+use Prim.Native.Nat.{ℕ, ◌+◌, ◌*◌, ◌/◌, ◌≤◌, ◌<◌}
 use native.Mathlib.Omega.{arith}
-use native.Mathlib.Nat.{mul-le-mul, le_trans}
+use native.Mathlib.Nat.{mul-le-mul}
 use lib.Dec.{ltb}
-use lib.ListN.{length, drop, length-append}
+use lib.ListN.{length, length-append}
 use borrow.Author.Tests.{ltb-false, lt-ltb, le-ltb}
 use Rattle.text.specs.declared.Dialect.{Dialect}
 use Rattle.text.specs.Utf8.{well_formed}
 use Rattle.text.specs.Any.{has_nul}
 use Rattle.text.specs.Text.{bytes}
-use Rattle.text.specs.Put.{Room, Puts}
+use Rattle.text.specs.Put.{Puts}
 use Rattle.text.specs.Xml.{forbidden}
 use Rattle.text.specs.Examples.{text_opens}
 use Rattle.text.proofs.Cases.{never, by_test}
@@ -22,7 +22,6 @@ use Rattle.attribute.specs.declared.DisplayStyle.{DisplayStyle}
 use Rattle.attribute.specs.Names.{display_style}
 use Rattle.error.specs.declared.Refusal.{Refusal}
 use Rattle.ast.specs.Tree.{Nodes, sizes}
-use Rattle.ast.specs.Held.{count}
 use Rattle.markup.specs.Print.{print_all}
 use Rattle.markup.proofs.ShortLaws.{most, short_all}
 use Rattle.parser.specs.declared.Parser.{Parser}

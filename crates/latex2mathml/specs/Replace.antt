@@ -1,7 +1,6 @@
 -- Replacement in a manner: the Rust's `replace`, at the lent sizes.
 -- Assumes nothing.
-use Rattle.std.specs.Prelude.{Bool, true, false, not, ◌&&◌, ◌||◌, List, [], ◌∷◌, ◌++◌, ℕ, suc, ◌+◌, ◌%◌, eqb, ltb, length, drop}
-use Prim.Native.Char.{code}
+use Rattle.std.specs.Prelude.{not, List, [], ◌∷◌, ◌++◌, ℕ, ◌+◌, ltb, length, drop}
 use Rattle.text.specs.Utf8.{well_formed}
 use Rattle.text.specs.Any.{has_nul}
 use Rattle.text.specs.Text.{part}
@@ -9,7 +8,7 @@ use Rattle.attribute.specs.declared.DisplayStyle.{DisplayStyle}
 use Rattle.dollars.specs.Dollars.{two_dollars, three_dollars, dollar}
 use Rattle.dollars.specs.Places.{places, odd}
 use Rattle.error.specs.declared.Refusal.{Refusal}
-use Rattle.latex2mathml.specs.Outcome.{Outcome, accepted, refused, ◌>>=◌, refuse, bytes_of, body_limit, document_limit}
+use Rattle.latex2mathml.specs.Outcome.{Outcome, accepted, ◌>>=◌, refuse, bytes_of, body_limit, document_limit}
 use Rattle.latex2mathml.specs.declared.Manner.{Manner}
 use Rattle.latex2mathml.specs.Translate.{latex_to_mathml, store_too_small}
 

@@ -1,4 +1,6 @@
 // The translation of a body and the replacement in a document: the Rust's lib.rs.
+#![tactic(auto)]
+
 pub mod replace;
 pub mod translate;
 

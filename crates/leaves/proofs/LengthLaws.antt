@@ -2,16 +2,16 @@
 -- Assumes nothing.
 use mathlib.Core.Path.{◌≡◌, refl, sym, ap, ◌∙◌}
 use mathlib.Core.Bool.{Bool, true, false}
-use mathlib.Core.List.{List, ◌++◌}
-use Prim.Native.Nat.{ℕ, ◌+◌, ◌-◌, ◌≤◌, ◌<◌}
+use mathlib.Core.List.{List}
+use Prim.Native.Nat.{ℕ, ◌+◌, ◌-◌, ◌≤◌}
 use native.Mathlib.Omega.{arith}
 use lib.Dec.{eqb, ltb}
 use borrow.Author.Tests.{le-ltb}
 use lib.ListN.{length, get_or, length-append, length-take, length-drop, get_or-eq_default}
-use Rattle.text.specs.Text.{bytes, part}
+use Rattle.text.specs.Text.{bytes}
 use Rattle.text.specs.declared.Dialect.{Dialect}
 use Rattle.text.specs.Xml.{in_text}
-use Rattle.text.specs.Put.{Room, Puts}
+use Rattle.text.specs.Put.{Room}
 use Rattle.text.specs.Examples.{text_opens}
 use Rattle.text.proofs.Cases.{never, by_order}
 use Rattle.text.proofs.Tabled.{tab, each}

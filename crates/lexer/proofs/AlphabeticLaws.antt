@@ -1,12 +1,11 @@
 -- An ASCII letter is a token of one byte.
 -- Assumes nothing.
 use mathlib.Core.Path.{◌≡◌, refl, sym, ap, ◌∙◌}
-use mathlib.Core.Bool.{Bool, true, false, ◌&&◌, ◌||◌, and-eq-true_iff, false≢true}
+use mathlib.Core.Bool.{Bool, true, false, ◌&&◌, and-eq-true_iff, false≢true}
 use mathlib.Core.List.{List, [], ◌∷◌}
 use Prim.Native.Nat.{ℕ, suc, ◌+◌, ◌-◌, ◌≤◌, ◌<◌}
 use native.Mathlib.Omega.{arith}
 use native.Mathlib.Nat.{add-zero}
-use native.Mathlib.Numerals.{add-one}
 use lib.Dec.{leb}
 use lib.ListN.{length, take, drop, get_or, length-drop}
 use lib.Seq.{drop-cons, take_all}
@@ -16,8 +15,7 @@ use Rattle.text.proofs.Keys.{NoneOf}
 use Rattle.text.proofs.Utf8Laws.{ascii_point}
 use Rattle.attribute.specs.declared.Variant.{Variant}
 use Rattle.token.specs.declared.Token.{Token}
-use Rattle.lexer.specs.declared.Lexeme.{Lexeme}
-use Rattle.lexer.specs.Lex.{is_whitespace, is_digit, is_alphabetic, run, lexeme, token_at, next_token}
+use Rattle.lexer.specs.Lex.{is_whitespace, is_digit, is_alphabetic, run, lexeme, next_token}
 use Rattle.lexer.proofs.TokenLaws.{marks, token_letter}
 
 -- none of them is an ASCII letter

@@ -1,22 +1,21 @@
 -- The token at the head of some bytes, by the character there.
 -- Assumes nothing.
 use mathlib.Core.Path.{◌≡◌, refl, sym, ◌∙◌, ap}
-use mathlib.Core.Bool.{Bool, true, false, ◌&&◌}
+use mathlib.Core.Bool.{Bool, true, false}
 use mathlib.Core.List.{List, [], ◌∷◌}
-use Prim.Native.Nat.{ℕ, suc, ◌+◌, ◌≤◌, ◌<◌}
+use Prim.Native.Nat.{ℕ, ◌+◌, ◌<◌}
 use native.Mathlib.Omega.{arith}
-use lib.Dec.{eqb, leb}
+use lib.Dec.{eqb}
 use lib.ListN.{length, drop, drop_of_length-le}
-use borrow.Author.Tests.{eq-eqb, ne_eqb, eqb-true, eqb-false}
+use borrow.Author.Tests.{ne_eqb, eqb-true, eqb-false}
 use Rattle.text.specs.declared.CodePoint.{CodePoint}
 use Rattle.text.specs.Utf8.{code_point}
-use Rattle.text.proofs.Utf8Laws.{ascii_point, high_point}
+use Rattle.text.proofs.Utf8Laws.{ascii_point}
 use Rattle.text.proofs.Cases.{by_test, by_order, never}
 use Rattle.text.proofs.Keys.{among, NoneOf, outside}
 use Rattle.attribute.specs.declared.Variant.{Variant}
 use Rattle.token.specs.declared.Token.{Token}
 use Rattle.token.specs.Texts.{text}
-use Rattle.lexer.specs.declared.Lexeme.{Lexeme}
 use Rattle.lexer.specs.Lex.{is_digit, is_alphabetic, number_at, punctuation, letter, of_character, lexeme, read_command, assigns, token_at}
 
 -- the bytes begin with a colon where they begin with an assignment

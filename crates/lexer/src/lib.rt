@@ -1,4 +1,6 @@
 // The lexer: the Rust's lexer.rs, over bytes.
+#![tactic(auto)]
+
 pub mod letters;
 pub mod reader;
 

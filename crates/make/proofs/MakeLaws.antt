@@ -4,7 +4,7 @@ use mathlib.Core.Path.{◌≡◌, refl, sym, ap, ◌∙◌}
 use mathlib.Core.Bool.{true, false}
 use mathlib.Core.List.{List, [], ◌∷◌}
 use mathlib.Core.Option.{Option, none, some}
-use Prim.Native.Nat.{ℕ, suc, ◌+◌, ◌-◌, ◌≤◌, ◌<◌}
+use Prim.Native.Nat.{ℕ, ◌+◌, ◌-◌, ◌≤◌, ◌<◌}
 use native.Mathlib.Omega.{arith}
 use types.Run.{OneOf, miss}
 use denote.Enum.Declared.{tag_of}
@@ -26,7 +26,7 @@ use Rattle.ast.specs.Shape.{leaf_fields, one_fields, two_fields, three_fields, f
 use Rattle.ast.specs.Store.{record_at, Put}
 use Rattle.ast.specs.Tree.{Node, leaf, one, two, three, row, matrix, Nodes, empty, ◌then◌}
 use Rattle.ast.specs.Held.{count, Beside, in_order, swapped, Roof, operand_of, Before, is_row, row_at, Holds, HoldsAll, FillsTree}
-use Rattle.ast.proofs.HeldLaws.{same_but, low, frame, frame_part, frame_parts, tree_low, turned_round}
+use Rattle.ast.proofs.HeldLaws.{low, frame_part, frame_parts, tree_low, turned_round}
 use Rattle.ast.proofs.KindLaws.{kind_of, role_held, leaf_no_row}
 use Rattle.ast.specs.contracts.Role as roles
 use Rattle.ast.proofs.RowLaws.{put_leaf, put_one, put_two, put_three, put_row, put_matrix, put_agrees, row_opened, append_first}
@@ -36,7 +36,7 @@ use Rattle.parser.specs.declared.Fence.{Fence}
 use Rattle.parser.specs.declared.Pair.{Pair}
 use Rattle.parser.specs.Parse.{Parsed, build, binomial, of_pair, grouped, stretch_leaf, stretch, opened}
 use Rattle.parser.specs.Marks.{fence}
-use Rattle.parser.specs.Built.{Builds, BuildsNone, BuildsLeaf, BuildsOne, BuildsTwo, BuildsBehind, BuildsThree, BuildsRow, BuildsMatrix, node_record}
+use Rattle.parser.specs.Built.{Builds, BuildsLeaf, BuildsOne, BuildsTwo, BuildsBehind, BuildsThree, BuildsRow, BuildsMatrix, node_record}
 
 -- r is the last of k records made since the state p
 abbrev pub Done : Parser → ℕ → ParsedNode → Type 0

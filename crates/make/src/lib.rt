@@ -1,4 +1,6 @@
 // The records that the parser makes once the operands of a node are read.
+#![tactic(auto)]
+
 ghost use Rattle.std.specs.Prelude.{◌≡◌, ◌+◌, ◌-◌, ◌*◌, ◌^◌, ◌≤◌, ◌<◌, length};
 ghost use Rattle.token.specs.Roles.{paren_of};
 ghost use Rattle.ast.specs.Shape.{Placed};

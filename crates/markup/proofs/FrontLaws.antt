@@ -11,7 +11,7 @@ use Rattle.ast.specs.declared.One.{One}
 use Rattle.ast.specs.declared.Two.{Two}
 use Rattle.ast.specs.declared.Three.{Three}
 use Rattle.ast.specs.Tree.{Node}
-use Rattle.markup.specs.Print.{fixed_text, character, display_text, slash, print_one, print_two, print_three}
+use Rattle.markup.specs.Print.{character, slash, print_one, print_two, print_three}
 use Rattle.markup.specs.Fronts.{accent_text, style_front, front_one, back_one, front_two, back_two, front_three, back_three}
 
 accented : (d : Dialect) (f m end : List ℕ) (acc : Accent) (c : ℕ)

@@ -1,6 +1,6 @@
 -- The length of the markup is what its nodes add.
 -- Assumes nothing.
-use mathlib.Core.Path.{◌≡◌, refl, sym, ap, ◌∙◌}
+use mathlib.Core.Path.{◌≡◌, refl, ap, ◌∙◌}
 use mathlib.Core.List.{List, ◌++◌}
 use Prim.Native.Nat.{ℕ, ◌+◌}
 use native.Mathlib.Omega.{arith}
@@ -16,10 +16,8 @@ use Rattle.ast.specs.declared.Three.{Three}
 use Rattle.ast.specs.declared.Shape.{Shape}
 use Rattle.ast.specs.Tree.{Node, leaf, one, two, three, row, matrix, Nodes, empty, ◌then◌}
 use Rattle.ast.specs.Held.{count}
-use Rattle.ast.specs.Sum.{Weigh, leaf_or, is_mark, either, mark_or, cell_or, part_sum, tree_sum, tree_sums, cell_sums}
-use Rattle.markup.specs.declared.Place.{Place}
-use Rattle.markup.specs.Print.{print_leaf, slash_leaf, slash, print_one, print_two, print_three, cell_leaf, cell, align_text, at_place, print, print_all, print_cells}
-use Rattle.markup.specs.Fronts.{front_one, back_one, front_two, back_two, front_three, back_three}
+use Rattle.ast.specs.Sum.{leaf_or, mark_or, cell_or, part_sum, tree_sum, tree_sums, cell_sums}
+use Rattle.markup.specs.Print.{print_leaf, slash, print_one, print_two, print_three, cell_leaf, cell, align_text, at_place, print, print_all, print_cells}
 use Rattle.markup.specs.Own.{own_text, own}
 use Rattle.markup.proofs.FrontLaws.{between, one_pieces, two_pieces, three_pieces}
 

@@ -15,8 +15,7 @@ use Rattle.token.specs.Examples.{token_opens}
 use Rattle.lexer.specs.Examples.{lexer_opens}
 use Rattle.ast.specs.declared.Leaf.{Leaf}
 use Rattle.ast.specs.declared.One.{One}
-use Rattle.ast.specs.declared.Two.{Two}
-use Rattle.ast.specs.Tree.{Node, Nodes, empty, ◌then◌}
+use Rattle.ast.specs.Tree.{Node, empty, ◌then◌}
 use Rattle.markup.specs.Print.{fixed_text, width_text, letter_text, character, operator_text, stretched_text, variant_text, letter_markup, operator_markup, parse_error, sized_end, sized_markup, undefined_markup, print_leaf, slash_leaf, slash, display_text, print_one, print_two, print_three, cell_leaf, cell, align_text, print}
 
 -- whoever unfolds this unfolds all definitions of this crate, as an example has to

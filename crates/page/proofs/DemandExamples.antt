@@ -14,7 +14,7 @@ use Rattle.latex2mathml.specs.Written.{over}
 use Rattle.latex2mathml.specs.Replace.{replacement}
 use Rattle.page.specs.declared.PageAnswer.{PageAnswer}
 use Rattle.page.specs.Page.{page, output_of}
-use Rattle.page.specs.Words.{Run, output, paragraph, break, prose, formula, ReplacedBy, DifferInParagraph, DifferInBody}
+use Rattle.page.specs.Words.{Run, output, paragraph, break, prose, formula, DifferInParagraph, DifferInBody}
 use Rattle.page.specs.Demand.{AllButOne, TwoRuns}
 use Rattle.page.specs.Examples.{page_opens}
 use Rattle.page.proofs.DemandLaws.{long_enough, demand3}

@@ -1,12 +1,11 @@
 -- Demand 3, from the page operation's promise.
 -- Assumes nothing.
 use mathlib.Core.Path.{◌≡◌, refl, sym, ◌∙◌, ap}
-use mathlib.Core.Bool.{true}
-use mathlib.Core.List.{List, [], ◌∷◌, ◌++◌, append-nil, append_assoc, map, flatten}
+use mathlib.Core.List.{List, [], ◌∷◌, ◌++◌, append-nil, append_assoc, flatten}
 use Prim.Native.Nat.{ℕ, suc, ◌+◌, ◌≤◌}
 use native.Mathlib.Omega.{arith}
 use lib.Dec.{ltb}
-use lib.ListN.{length, take, drop}
+use lib.ListN.{length, drop}
 use lib.Seq.{take_at}
 use borrow.Author.Tests.{le-ltb}
 use Rattle.text.proofs.Cases.{never}
@@ -21,7 +20,7 @@ use Rattle.page.specs.declared.PageAnswer.{PageAnswer}
 use Rattle.breaks.specs.Pieces.{Pieces, last, piece, pieces, paragraphs}
 use Rattle.page.specs.Page.{shown, left, shown_all, left_all, Paged, page, output_of, paragraphs_of, left_of}
 use Rattle.page.specs.Run.{answer_number, answer_length, answer_paragraphs, answer_left}
-use Rattle.page.specs.Words.{Run, output, Piece, paragraph, break, listed, in_order, paragraph_count, ReplacedBy, RefusedThere, Out, copied, replaced, typed, written, Comes, typed_count, tidy, Part, prose, formula, parts, display_of, Shows, Differ, DifferInParagraph, dollar_runs}
+use Rattle.page.specs.Words.{Run, output, Piece, paragraph, break, listed, in_order, paragraph_count, ReplacedBy, RefusedThere, Out, copied, replaced, typed, written, Comes, typed_count, Part, prose, formula, display_of, Shows, Differ, DifferInParagraph, dollar_runs}
 use Rattle.page.specs.Demand.{Each, joined, Made, Shared, TheCut, TheRuns, OneRun, Beside, NotRefused, AllButOne, TwoRuns, Demand3}
 use Rattle.page.proofs.ParagraphLaws.{shown_replaced, left_replaced, shown_typed, left_typed}
 use Rattle.breaks.proofs.CutLaws.{cut_joins, cut_right, cut_only}

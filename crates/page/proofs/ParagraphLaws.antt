@@ -8,11 +8,10 @@ use native.Mathlib.Omega.{arith}
 use lib.ListN.{length, take, drop, set, length-append}
 use lib.Seq.{take_at, length-take-le}
 use Rattle.text.specs.Put.{put, Room, Puts}
-use Rattle.text.proofs.Cases.{never}
 use Rattle.error.specs.declared.Refusal.{Refusal}
 use Rattle.latex2mathml.specs.declared.Manner.{Manner}
 use Rattle.latex2mathml.specs.declared.Answer.{Answer}
-use Rattle.latex2mathml.specs.Outcome.{Outcome, accepted, refused}
+use Rattle.latex2mathml.specs.Outcome.{accepted, refused}
 use Rattle.latex2mathml.specs.Replace.{replacement}
 use Rattle.latex2mathml.specs.Laid.{Laid, Lays, Fits, WrittenThere, growth, AtMost}
 use Rattle.latex2mathml.specs.Written.{answer_length}

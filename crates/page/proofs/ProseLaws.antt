@@ -1,12 +1,11 @@
 -- A page of prose is the prose, and no paragraph of it is left.
 -- Assumes nothing.
-use mathlib.Core.Path.{◌≡◌, refl, sym, ◌∙◌}
+use mathlib.Core.Path.{◌≡◌, sym, ◌∙◌}
 use mathlib.Core.Bool.{true, not, and-eq-true_iff}
 use mathlib.Core.List.{List, ◌++◌}
-use Prim.Native.Nat.{ℕ, ◌+◌, ◌-◌, ◌*◌, ◌≤◌, ◌<◌}
+use Prim.Native.Nat.{ℕ, ◌≤◌, ◌<◌}
 use native.Mathlib.Omega.{arith}
-use lib.Dec.{ltb}
-use lib.ListN.{length, drop, length-append}
+use lib.ListN.{length, length-append}
 use borrow.Author.Tests.{lt-ltb, le-ltb, not-true}
 use Rattle.text.specs.Any.{any}
 use Rattle.text.specs.Plain.{plain}
@@ -17,20 +16,15 @@ use Rattle.text.proofs.PutLaws.{puts_all}
 use Rattle.error.specs.declared.Refusal.{Refusal}
 use Rattle.latex2mathml.specs.declared.Manner.{Manner}
 use Rattle.latex2mathml.specs.Outcome.{accepted, ◌>>=◌, refuse, document_limit, number_of}
-use Rattle.dollars.specs.Places.{next_place}
 use Rattle.dollars.specs.Dollars.{unusual, is_prose}
 use Rattle.latex2mathml.specs.Written.{over}
-use Rattle.dollars.proofs.PlaceLaws.{next_is}
 use Rattle.latex2mathml.proofs.ProseLaws.{prose_typed}
 use Rattle.page.specs.declared.PageAnswer.{PageAnswer}
 use Rattle.breaks.specs.Pieces.{Pieces, last, piece, pieces, paragraphs}
-use Rattle.breaks.specs.Breaks.{two_line_ends, no_line_end}
 use Rattle.breaks.specs.Cut.{typed_all}
 use Rattle.page.specs.Page.{shown_all, left_all, page, output_of, paragraphs_of, left_of}
 use Rattle.page.specs.Run.{answer_number, answer_length, answer_paragraphs, answer_left, Pages}
-use Rattle.breaks.proofs.BreakLaws.{blank_behind, begins, one_there, end_past}
 use Rattle.breaks.proofs.CutLaws.{cut_joins}
-use Rattle.breaks.proofs.PieceLaws.{pieces_last, pieces_more}
 use Rattle.page.proofs.ParagraphLaws.{shown_replaced, left_replaced}
 use Rattle.page.proofs.PageLaws.{pages_refused}
 

@@ -1,7 +1,7 @@
 -- What two lists that differ in one place come out as, for any relation that gives an element one outcome.
 -- Assumes nothing.
-use mathlib.Core.Path.{◌≡◌, refl, sym, ◌∙◌, ap}
-use mathlib.Core.List.{List, [], ◌∷◌, ◌++◌, append_assoc, map, flatten}
+use mathlib.Core.Path.{◌≡◌, refl, ◌∙◌, ap}
+use mathlib.Core.List.{List, [], ◌∷◌, ◌++◌, append_assoc, flatten}
 use Prim.Native.Nat.{ℕ}
 use Rattle.page.specs.Words.{Differ}
 use Rattle.page.specs.Demand.{Each, joined, Made, Shared}

@@ -1,17 +1,16 @@
 -- Worked examples, which antt computes.
 -- Assumes nothing.
-use Rattle.std.specs.Prelude.{◌≡◌, refl, true, false, List, [], ◌∷◌, map, ℕ}
-use Prim.Native.String.{String}
+use Rattle.std.specs.Prelude.{◌≡◌, refl, true, false, [], ◌∷◌, map}
 use Rattle.text.specs.Text.{bytes}
 use Rattle.error.specs.declared.Refusal.{Refusal}
-use Rattle.latex2mathml.specs.Outcome.{Outcome, accepted, refused}
+use Rattle.latex2mathml.specs.Outcome.{accepted, refused}
 use Rattle.latex2mathml.specs.Manner.{old}
 use Rattle.latex2mathml.specs.Marked.{latex2mathml_opens}
 use Rattle.breaks.specs.Examples.{breaks_opens}
-use Rattle.page.specs.Page.{shown, left, shown_all, left_all, Paged, page, output_of, paragraphs_of, left_of}
+use Rattle.page.specs.Page.{shown, left, shown_all, left_all, page, output_of, paragraphs_of, left_of}
 use Rattle.page.specs.Run.{answer_number, answer_length, answer_paragraphs, answer_left}
 use Rattle.page.specs.Marks.{marks}
-use Rattle.page.specs.Words.{Part, prose, formula, output, listed, in_order, paragraph_count, written, typed_count, with_byte, with_dollar, dollar_runs, lengths, paired, tidy, parts_of, parts, display_of}
+use Rattle.page.specs.Words.{prose, formula, output, listed, in_order, paragraph_count, written, typed_count, with_byte, with_dollar, dollar_runs, lengths, paired, tidy, parts_of, parts, display_of}
 
 -- whoever unfolds this unfolds all definitions of this crate and of those below it, as an example has to
 unfoldable pub page_opens : Unit {0}

@@ -6,9 +6,9 @@ use Rattle.text.specs.Plain.{plain}
 use Rattle.attribute.specs.declared.DisplayStyle.{DisplayStyle}
 use Rattle.error.specs.declared.Refusal.{Refusal}
 use Rattle.latex2mathml.specs.declared.Manner.{Manner}
-use Rattle.latex2mathml.specs.Outcome.{Outcome, accepted, refused}
+use Rattle.latex2mathml.specs.Outcome.{accepted, refused}
 use Rattle.latex2mathml.specs.Translate.{translate}
-use Rattle.latex2mathml.specs.Replace.{Replaced, replace}
+use Rattle.latex2mathml.specs.Replace.{replace}
 use Rattle.page.specs.declared.PageAnswer.{PageAnswer}
 use Rattle.breaks.specs.Pieces.{Pieces, last, piece, pieces}
 use Rattle.page.specs.Run.{answer_length, Pages}

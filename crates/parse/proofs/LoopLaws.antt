@@ -15,7 +15,7 @@ use Rattle.ast.proofs.HeldLaws.{low, frame_all}
 use Rattle.ast.proofs.RowLaws.{first_below}
 use Rattle.parser.specs.declared.Parser.{Parser}
 use Rattle.parser.specs.State.{next, cur_is}
-use Rattle.parser.specs.Parse.{Parsed, made, Reads}
+use Rattle.parser.specs.Parse.{Parsed, Reads}
 use Rattle.parser.specs.Sound.{Sound, Keeps}
 use Rattle.parser.specs.Built.{Free, Ready, Ends, Built}
 use Rattle.parser.proofs.MoveLaws.{other_byte}

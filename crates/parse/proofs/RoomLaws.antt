@@ -1,22 +1,21 @@
 -- The records lent suffice all along: each token that is passed leaves two for each of its bytes.
 -- Assumes nothing.
-use mathlib.Core.Path.{◌≡◌, refl, sym, ◌∙◌, ap}
-use mathlib.Core.Bool.{Bool, true, false}
+use mathlib.Core.Path.{◌≡◌, refl, ◌∙◌, ap}
+use mathlib.Core.Bool.{Bool, true}
 use mathlib.Core.List.{List}
-use Prim.Native.Nat.{ℕ, zero, suc, ◌+◌, ◌*◌, ◌^◌, ◌≤◌, ◌<◌}
+use Prim.Native.Nat.{ℕ, zero, suc, ◌+◌, ◌≤◌, ◌<◌}
 use native.Mathlib.Omega.{arith}
 use lib.Dec.{lit≤}
 use lib.ListN.{length}
 use Rattle.token.specs.declared.Token.{Token}
 use Rattle.token.specs.declared.Mark.{Mark}
 use Rattle.token.specs.Key.{rows}
-use Rattle.token.specs.Roles.{mark_number, token_is, letter_of}
-use Rattle.ast.specs.Tree.{Node}
+use Rattle.token.specs.Roles.{mark_number, letter_of}
 use Rattle.parser.specs.declared.Parser.{Parser}
 use Rattle.parser.specs.declared.Script.{Script}
 use Rattle.parser.specs.declared.TextRead.{TextRead}
 use Rattle.parser.specs.State.{next, peek_is, past_letters, parse_text}
-use Rattle.parser.specs.Parse.{Reads, made, parse_group, parse_bare, parse_node, parse_single_node}
+use Rattle.parser.specs.Parse.{Reads, parse_group, parse_bare, parse_node, parse_single_node}
 use Rattle.parser.specs.Sound.{least, Sound, idle, Keeps}
 use Rattle.parser.specs.Marks.{script_of}
 use Rattle.parser.specs.Built.{Built, Free, Spare, Ready, Ends, Primed}

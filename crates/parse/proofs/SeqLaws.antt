@@ -1,6 +1,6 @@
 -- Answers of the parser one after the other: what was read before stays where it stands.
 -- Assumes nothing.
-use mathlib.Core.Path.{◌≡◌, refl, sym, ◌∙◌, ap, subst}
+use mathlib.Core.Path.{◌≡◌, refl, sym, ◌∙◌, subst}
 use mathlib.Core.List.{List}
 use mathlib.Core.Option.{none}
 use Prim.Native.Nat.{ℕ, ◌≤◌, ◌<◌}
@@ -15,7 +15,7 @@ use Rattle.ast.proofs.HeldLaws.{low, frame_part, tree_low}
 use Rattle.parser.specs.declared.Parser.{Parser}
 use Rattle.parser.specs.declared.ParsedNode.{ParsedNode}
 use Rattle.parser.specs.Marks.{leaf_of}
-use Rattle.parser.specs.Parse.{Parsed, made, refused, Reads, parse_bare}
+use Rattle.parser.specs.Parse.{Parsed, made, Reads, parse_bare}
 use Rattle.parser.specs.Built.{Built, Builds, BuildsNone, BuildsOne, BuildsTwo, BuildsBehind, BuildsThree}
 
 -- the records that were made before the state p stay

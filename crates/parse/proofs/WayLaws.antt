@@ -1,6 +1,6 @@
 -- The ways through the parser's arms: what each gives where its operands are known.
 -- Assumes nothing.
-use mathlib.Core.Path.{◌≡◌, refl, sym, ◌∙◌, ap}
+use mathlib.Core.Path.{◌≡◌, refl, ap}
 use mathlib.Core.Bool.{Bool, true, false}
 use mathlib.Core.List.{List}
 use mathlib.Core.Option.{Option, none, some}
@@ -18,17 +18,16 @@ use Rattle.token.specs.Roles.{mark_number, token_is, paren_of, fence_of}
 use Rattle.ast.specs.declared.Leaf.{Leaf}
 use Rattle.ast.specs.declared.One.{One}
 use Rattle.ast.specs.declared.Two.{Two}
-use Rattle.ast.specs.Tree.{Node, leaf, one, two, three, row, Nodes, empty, snoc, set_variant}
+use Rattle.ast.specs.Tree.{Node, leaf, one, two, empty, set_variant}
 use Rattle.parser.specs.declared.Parser.{Parser}
 use Rattle.parser.specs.declared.TextRead.{TextRead}
-use Rattle.parser.specs.declared.Environment.{Environment}
 use Rattle.parser.specs.declared.Fence.{Fence}
 use Rattle.parser.specs.declared.Script.{Script}
 use Rattle.parser.specs.declared.Pair.{Pair}
 use Rattle.parser.specs.declared.Limits.{Limits}
 use Rattle.parser.specs.State.{next, cur_is, peek_is, parse_text}
 use Rattle.parser.specs.Environment.{environment}
-use Rattle.parser.specs.Parse.{Parsed, made, refused, Reads, ◌>>=◌, build, group_up_to, grouped, parse_group, parse_sqrt, of_pair, parse_two, parse_one, parse_brace, operator, with_below, with_above, with_both, parse_limits, parse_lim, parse_slashed, parse_style, with_fence, fenced, parse_left, stretch, stretched, parse_middle, sized, parse_big, opened, in_environment, parse_begin, parse_text_leaf, parse_bare, primed, single_step, sub_sup, both_scripts, parse_second, parse_scripts, node_step, parse_node, parse_single_node}
+use Rattle.parser.specs.Parse.{made, refused, Reads, ◌>>=◌, build, group_up_to, parse_group, parse_sqrt, of_pair, parse_two, parse_one, parse_brace, operator, parse_limits, parse_lim, parse_slashed, parse_style, with_fence, fenced, parse_left, stretch, stretched, parse_middle, sized, parse_big, opened, in_environment, parse_begin, parse_text_leaf, parse_bare, primed, single_step, sub_sup, both_scripts, parse_second, parse_scripts, node_step, parse_node, parse_single_node}
 use Rattle.parser.specs.Marks.{fence, script_of, script_kind, repeats, other_limit}
 use Rattle.parser.specs.Built.{with_limit, with_limits}
 use Rattle.parser.proofs.MarkLaws.{no_script}

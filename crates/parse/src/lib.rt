@@ -1,4 +1,6 @@
 // The parser: the functions of the Rust's parse.rs that call one another.
+#![tactic(auto)]
+
 pub mod body;
 
 ghost use Rattle.std.specs.Prelude.{◌≡◌, ◌+◌, ◌*◌, ◌≤◌, ◌<◌, length};

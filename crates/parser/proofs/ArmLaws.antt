@@ -20,7 +20,7 @@ use Rattle.ast.specs.declared.Stretched.{Stretched}
 use Rattle.ast.specs.declared.Leaf.{Leaf}
 use Rattle.ast.specs.declared.One.{One}
 use Rattle.ast.specs.declared.Two.{Two}
-use Rattle.ast.specs.Tree.{Node, leaf, one, two, Nodes, size, sizes}
+use Rattle.ast.specs.Tree.{Node, leaf, Nodes, size, sizes}
 use Rattle.ast.specs.Inside.{LeafInside, TreeInside, AllInside}
 use Rattle.parser.specs.declared.Parser.{Parser}
 use Rattle.parser.specs.declared.Environment.{Environment}

@@ -12,8 +12,7 @@ use Rattle.error.specs.declared.Refusal.{Refusal}
 use Rattle.token.specs.declared.Mark.{Mark}
 use Rattle.token.specs.declared.Token.{Token}
 use Rattle.token.specs.Roles.{mark_number, token_is}
-use Rattle.ast.specs.declared.Two.{Two}
-use Rattle.ast.specs.Tree.{Node, one, Nodes, empty, snoc, size, sizes}
+use Rattle.ast.specs.Tree.{Node, Nodes, empty, snoc, size, sizes}
 use Rattle.ast.specs.Inside.{TreeInside, AllInside}
 use Rattle.parser.specs.declared.Parser.{Parser}
 use Rattle.parser.specs.declared.Script.{Script}

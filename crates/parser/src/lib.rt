@@ -1,4 +1,6 @@
 // The parser's state, and what it makes of the nodes that it has read: the Rust's parse.rs but for the calls among its functions.
+#![tactic(auto)]
+
 pub mod environments;
 pub mod marks;
 

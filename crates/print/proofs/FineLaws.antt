@@ -1,22 +1,21 @@
 -- What is known of every record that a body's tree was made with, held or dropped.
 -- Assumes nothing.
-use mathlib.Core.Path.{◌≡◌, refl, sym, ap, ◌∙◌}
+use mathlib.Core.Path.{◌≡◌, refl, ap, ◌∙◌}
 use mathlib.Core.Bool.{true}
 use mathlib.Core.List.{List}
 use mathlib.Core.Option.{Option, none, some}
-use Prim.Native.Nat.{ℕ, zero, suc, ◌+◌, ◌*◌, ◌≤◌, ◌<◌, zero-le}
+use Prim.Native.Nat.{ℕ, suc, ◌+◌, ◌*◌, ◌≤◌, ◌<◌, zero-le}
 use native.Mathlib.Omega.{arith}
 use native.Mathlib.Nat.{le_refl}
 use lib.ListN.{length}
 use Rattle.text.proofs.Cases.{by_three, never}
-use Rattle.attribute.specs.declared.ColumnAlign.{ColumnAlign}
 use Rattle.ast.specs.declared.Stretched.{Stretched}
 use Rattle.ast.specs.declared.Leaf.{Leaf}
 use Rattle.ast.specs.declared.Shape.{Shape}
-use Rattle.ast.specs.Shape.{fields_of, fields, shape_of, role_of}
+use Rattle.ast.specs.Shape.{shape_of, role_of}
 use Rattle.ast.specs.Store.{record_at}
 use Rattle.ast.specs.Tree.{Node, leaf, one, two, three, row, matrix, Nodes, empty, ◌then◌}
-use Rattle.ast.specs.Held.{Stands, Beside, in_order, swapped, Roof, count, operand_leaf, operand_of, Before, is_row, row_at, Holds, HoldsAll, FillsTree}
+use Rattle.ast.specs.Held.{Stands, Beside, in_order, swapped, Roof, count, operand_of, Before, is_row, row_at, Holds, HoldsAll, FillsTree}
 use Rattle.ast.specs.Inside.{LeafInside, TreeInside, AllInside}
 use Rattle.ast.specs.Sum.{shape_at, Chain}
 use Rattle.ast.proofs.ShapeLaws.{shape_back}

@@ -7,34 +7,31 @@ use Prim.Native.Nat.{ℕ, zero, suc, ◌+◌, ◌-◌, ◌*◌, ◌^◌, ◌≤�
 use native.Mathlib.Omega.{arith}
 use native.Mathlib.Nat.{mul-add}
 use lib.ListN.{length, get_or, get_or-eq_default}
-use Rattle.text.proofs.Cases.{never, by_order}
-use Rattle.text.proofs.Tabled.{tab, each}
+use Rattle.text.proofs.Cases.{never}
+use Rattle.text.proofs.Tabled.{each}
 use Rattle.text.specs.Examples.{text_opens}
 use Rattle.text.specs.declared.Dialect.{Dialect}
 use Rattle.attribute.specs.declared.ColumnAlign.{ColumnAlign}
 use Rattle.attribute.specs.Codes.{align_of}
 use Rattle.ast.specs.declared.Leaf.{Leaf}
 use Rattle.ast.specs.declared.One.{One}
-use Rattle.ast.specs.declared.Two.{Two}
-use Rattle.ast.specs.declared.Three.{Three}
 use Rattle.ast.specs.declared.Shape.{Shape}
 use Rattle.ast.specs.declared.Fate.{Fate}
 use Rattle.ast.specs.declared.Record.{Record}
 use Rattle.ast.specs.declared.Fields.{Fields}
 use Rattle.ast.specs.Shape.{fields_of, shapes, matrix_shape, shape_of}
 use Rattle.ast.specs.Store.{record_at}
-use Rattle.ast.specs.Tree.{Node, leaf, one, two, three, row, matrix, Nodes, empty, ◌then◌, size}
+use Rattle.ast.specs.Tree.{leaf, one, two, three, row, matrix, Nodes, empty, size}
 use Rattle.ast.specs.Held.{count, HoldsAll}
 use Rattle.ast.specs.Inside.{ShapeInside}
-use Rattle.ast.specs.Sum.{Weigh, marks, mark_sum, cells, Chain, shape_at, fate_at, tree_sum, tree_sums, part_sum, own_sum, own_taken, added_by, taken_by, added, taken, store_sum}
+use Rattle.ast.specs.Sum.{marks, mark_sum, cells, Chain, shape_at, fate_at, tree_sum, tree_sums, own_sum, own_taken, added_by, taken_by, added, taken, store_sum}
 use Rattle.ast.proofs.CellLaws.{mark_small}
 use Rattle.ast.proofs.SumLaws.{added_all, store_sum_lem}
-use Rattle.markup.specs.Print.{at_place, cell, cell_leaf, print_leaf, print, print_all}
+use Rattle.markup.specs.Print.{at_place, cell, cell_leaf, print_leaf, print_all}
 use Rattle.markup.specs.Own.{under, own_text, own, error_of, own_errors, errors}
 use Rattle.markup.proofs.OwnLaws.{print_own, print_all_own}
 use Rattle.markup.proofs.PrintLaws.{error_ampersand, error_new_line}
 use Rattle.markup.proofs.ShortLaws.{most, short}
-use Rattle.markup.specs.declared.Place.{Place}
 use Rattle.print.specs.declared.measure.Sums.{Sums}
 use Rattle.print.specs.Measure.{Measurable, is_dropped, is_slashed, Summed}
 use Rattle.print.proofs.FineLaws.{Fine, all_fine}

@@ -12,7 +12,7 @@ use Rattle.ast.specs.declared.Shape.{Shape}
 use Rattle.ast.specs.Shape.{fields_of, shape_of}
 use Rattle.ast.specs.Store.{record_at}
 use Rattle.ast.specs.Tree.{Node, leaf, one, two, three, row, matrix, Nodes}
-use Rattle.ast.specs.Held.{Rowed, count, Holds, HoldsAll, FillsTree}
+use Rattle.ast.specs.Held.{Rowed, count, HoldsAll, FillsTree}
 use Rattle.ast.proofs.HeldLaws.{roof_below, beside_low, tree_low, beside_left, turned_round}
 use Rattle.ast.proofs.KindLaws.{kind_of, shape_held}
 use Rattle.ast.specs.Inside.{LeafInside, TreeInside, AllInside}

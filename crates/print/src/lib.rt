@@ -1,4 +1,6 @@
 // The printer: a tree of the store is printed by recursion over its records; what it prints was measured before.
+#![tactic(auto)]
+
 pub mod measure;
 
 ghost use Rattle.std.specs.Prelude.{◌≡◌, true, ◌++◌, length};

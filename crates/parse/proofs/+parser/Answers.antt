@@ -1,13 +1,12 @@
 use mathlib.Core.Path.{refl, sym, ap, ◌∙◌}
-use mathlib.Core.Bool.{true, false}
-use Prim.Native.Nat.{◌-◌, ℕ, ◌<◌}
+use Prim.Native.Nat.{◌-◌}
 use lib.Dec.{lit≤}
 use lib.ListN.{length}
 use Rattle.token.specs.declared.Mark.{Mark}
-use Rattle.token.specs.Roles.{mark_number, fence_of}
-use Rattle.parser.specs.Parse.{parse_node, parse_single_node, parse_bare, parse_group, opened, in_environment}
+use Rattle.token.specs.Roles.{mark_number}
+use Rattle.parser.specs.Parse.{parse_node, parse_single_node, parse_bare, opened, in_environment}
 use Rattle.parser.specs.Sound.{least}
-use Rattle.parser.specs.Marks.{script_of, other_limit}
+use Rattle.parser.specs.Marks.{other_limit}
 use Rattle.parser.proofs.BodyLaws.{node_keeps, single_keeps}
 use Rattle.parser.proofs.MoveLaws.{text_sound}
 use Rattle.parse.proofs.RoomLaws.{may_next, starts_ready, ready_starts, ready_ends, ends_next, starts_next, ends_mark, ends_script, starts_text, ends_free, starts_free, node_ends, group_ends, ready_node, ready_free, prime_free, wide_3, next_made, text_made, bare_keeps}

@@ -1,5 +1,4 @@
 use mathlib.Core.Path.{refl, ◌∙◌}
-use Prim.Native.Nat.{◌-◌}
 use lib.ListN.{length}
 use Rattle.dollars.proofs.DollarLaws.{mark_inside, pair_next}
 use Rattle.latex2mathml.proofs.PassLaws.{passing_none, last_small, passing_all, prose_small, body_room, passing_refused, passing_more}

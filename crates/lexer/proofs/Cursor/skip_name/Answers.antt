@@ -26,7 +26,7 @@ returns c =
     let at = c.args.self.at in
     let w = ap (λ q. q.width) c.code_point-p.ensures in
     let length_of_name : name_length (drop at s) ≡ (code_point (drop at s)).width = elim c.if-at-s.branch [
-    then-at-s+else-is_alphabetic w ↦ name_other s at w.if-at-s.true (sym w.is_alphabetic.ensures ∙ w.if-is_alphabetic.false)
-    | else-at-s w ↦ name_end s at w.if-at-s.false
+      | then-at-s+else-is_alphabetic w ↦ name_other s at w.if-at-s.true (sym w.is_alphabetic.ensures ∙ w.if-is_alphabetic.false)
+      | else-at-s w ↦ name_end s at w.if-at-s.false
     ] in
     (ap (λ n. at + n) (w ∙ sym length_of_name), omega (arith, w, point_inside s at (c.requires)))

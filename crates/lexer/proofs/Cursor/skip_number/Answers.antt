@@ -1,6 +1,4 @@
 use mathlib.Core.Path.{refl, sym, ◌∙◌}
-use mathlib.Core.Bool.{false}
-use Prim.Native.Nat.{◌-◌}
 use Rattle.lexer.proofs.RunLaws.{number_digit, number_period, number_other, number_second, number_end}
 use native.Mathlib.Omega.{arith}
 use Rattle.lexer.proofs.Cursor.skip_number.Goals as goal

@@ -1,5 +1,4 @@
 use mathlib.Core.Path.{refl, sym, ◌∙◌}
-use Prim.Native.Nat.{◌-◌}
 use Rattle.lexer.specs.Lex.{is_whitespace}
 use Rattle.lexer.proofs.RunLaws.{run_more, run_stop, run_end}
 use native.Mathlib.Omega.{arith}

@@ -3,8 +3,6 @@ use mathlib.Core.Path.{refl, sym, ◌∙◌, ap}
 use mathlib.Core.Bool.{true, false}
 use lib.ListN.{drop}
 use borrow.Author.Tests.{eqb-false}
-use native.Mathlib.Nat.{le_trans}
-use lib.Dec.{lit≤}
 use Rattle.text.proofs.Keys.{beyond, outside}
 use Rattle.text.proofs.Utf8Laws.{point_inside}
 use Rattle.attribute.specs.declared.Variant.{Variant}
@@ -176,9 +174,9 @@ pub returns-in_default : goal.returns-in_default
 returns-in_default c =
     let code = c.code_point-p.result.code in
     let k : Class code false false = elim c.in_default.branch [
-    in_default-via-then-c-lt38 w ↦ below code (omega arith)
-    | in_default-via-else-c-lt38+else-c-lt58+then-c-lt65 w ↦ between code (omega arith) (omega arith)
-    | in_default-via-else-c-lt38+else-c-lt58+else-c-lt65+else-c-lt91+then-c-lt97 w ↦ amid code (omega arith) (omega arith)
-    | in_default-via-else-c-lt38+else-c-lt58+else-c-lt65+else-c-lt91+else-c-lt97+else-c-lt123 w ↦ above code (omega arith)
+      | in_default-via-then-c-lt38 w ↦ below code (omega arith)
+      | in_default-via-else-c-lt38+else-c-lt58+then-c-lt65 w ↦ between code (omega arith) (omega arith)
+      | in_default-via-else-c-lt38+else-c-lt58+else-c-lt65+else-c-lt91+then-c-lt97 w ↦ amid code (omega arith) (omega arith)
+      | in_default-via-else-c-lt38+else-c-lt58+else-c-lt65+else-c-lt91+else-c-lt97+else-c-lt123 w ↦ above code (omega arith)
     ] in
     c.new-in_default.ensures ∙ token_letter c.args.self.at (drop c.args.self.at c.args.s.now) c.code_point-p.result Variant.Normal false c.code_point-p.ensures c.in_default-1.rest k.digit k.alphabetic refl

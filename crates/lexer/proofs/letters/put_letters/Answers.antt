@@ -1,4 +1,3 @@
-use Prim.Native.Nat.{◌-◌}
 use borrow.Enum.Refused.{opened}
 use Rattle.text.proofs.PutLaws.{putting_length}
 use Rattle.lexer.proofs.LettersLaws.{reading_none, reading_room, reading_more, reading_all, letter_inside, no_letter}

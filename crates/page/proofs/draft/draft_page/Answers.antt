@@ -1,5 +1,4 @@
 use mathlib.Core.Path.{refl, ◌∙◌}
-use Prim.Native.Nat.{◌-◌}
 use Rattle.text.proofs.PartLaws.{part_length}
 use Rattle.page.proofs.DraftLaws.{drafting_none, drafting_last, drafting_more, place_most}
 use Rattle.breaks.proofs.PieceLaws.{pieces_more}

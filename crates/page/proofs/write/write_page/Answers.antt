@@ -1,5 +1,4 @@
 use mathlib.Core.Path.{refl, ◌∙◌}
-use Prim.Native.Nat.{◌-◌}
 use Rattle.page.proofs.WriteLaws.{writing_none, writing_mark, writing_room, writing_last, break_room, writing_more}
 use Rattle.breaks.proofs.PieceLaws.{pieces_more}
 use native.Mathlib.Omega.{arith}

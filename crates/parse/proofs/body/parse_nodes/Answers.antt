@@ -1,5 +1,4 @@
 use mathlib.Core.Path.{refl, sym, ◌∙◌}
-use Prim.Native.Nat.{◌-◌}
 use Rattle.parser.proofs.BodyLaws.{node_keeps}
 use Rattle.parse.proofs.LoopLaws.{loops_ready, loops_few, loops_free, more_ends, more_append, more_less}
 use Rattle.parse.proofs.BodyLaws.{body_none, body_end, body_refused, body_turns}

@@ -1,5 +1,4 @@
 use mathlib.Core.Path.{refl, sym, ◌∙◌}
-use Prim.Native.Nat.{◌-◌}
 use lib.ListN.{get_or}
 use borrow.Enum.Refused.{opened}
 use Rattle.attribute.specs.declared.Variant.{Variant}

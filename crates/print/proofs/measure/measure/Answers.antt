@@ -1,5 +1,4 @@
 use mathlib.Core.Path.{◌≡◌}
-use Prim.Native.Nat.{◌-◌}
 use Rattle.print.proofs.MeasureLaws.{summed_none, all_length, all_errors, all_small, length_sum, errors_sum}
 use native.Mathlib.Omega.{arith}
 use Rattle.print.proofs.measure.measure.Goals as goal
