@@ -1,12 +1,15 @@
 // The page program: standard input is a document, and standard output its page in the old dialect, or a line with the number of the refusal.
-ghost use Rattle.std.specs.Prelude.{◌≡◌, ◌≤◌, ◌<◌, true, length, take};
+#![tactic(auto)]
+
+ghost use Rattle.std.specs.Prelude.{◌≡◌, ◌≤◌, ◌<◌, true, IfOk, length, take};
 ghost use Rattle.text.specs.Put.{Room, Puts};
 ghost use Rattle.page_main.specs.Program.{read_limit, decimal, refusal, Answers};
 
 use error::Refusal;
 use latex2mathml::{Manner, number};
-use libc::{STDIN_FILENO, STDOUT_FILENO};
 use page::{PageAnswer, page};
+use std::io;
+use std::io::{Print, Read};
 use text::Dialect;
 use text::put::put;
 
@@ -64,10 +67,25 @@ fn respond(input: &[u8; 32769], n: usize, out: &mut [u8; 65536]) -> usize
     answer_first(input, n, out)
 }
 
-fn main() {
+// Reads until the buffer is full or the input ends, and answers how many bytes stand at its start.
+fn read_full<R: Read>(from: &mut R, input: &mut [u8]) -> io::Result<usize>
+    ensures { IfOk result (λ n. n ≤ length input.new) }
+{
+    let mut done: usize = 0;
+    while done < input.len() {
+        let n = from.read(&mut input[done..])?;
+        if n == 0 {
+            break;
+        }
+        done += n;
+    }
+    Ok(done)
+}
+
+fn main(rt: HostRuntime) -> io::Result<()> {
     let mut input = [0u8; 32769];
-    let n = io::read_full(STDIN_FILENO, &mut input);
+    let n = read_full(&mut rt.stdin(), &mut input)?;
     let mut out = [0u8; 65536];
     let length = respond(&input, n, &mut out);
-    io::write_all(STDOUT_FILENO, &out[..length]);
+    rt.write_all(&out[..length])
 }

@@ -5,7 +5,6 @@ ghost use Rattle.vectors.specs.Judged.{Agrees, Judged};
 use crate::ask::{Got, ask_body, ask_document, ask_page};
 use crate::case::Case;
 use crate::packed::{put_bytes, put_opening, put_piece, unpack};
-use check::same;
 
 // Whether an answer is the stored one, or the number that came instead.
 #[derive(Clone, Copy)]
@@ -40,7 +39,7 @@ fn alike(a: &[u8], b: &[u8], n: usize) -> bool
     if b.len() < n {
         return false;
     }
-    same(&a[..n], &b[..n])
+    &a[..n] == &b[..n]
 }
 
 // Judges an answer by its numbers and by the first bytes of the output, up to an end behind its length.

@@ -12,18 +12,21 @@
 //
 // Of a body's output the wrapper is left off. In a text a backquote begins one of these: `B and `I are the opening tags of a formula in
 // block and in inline, `3f is the byte with these two hexadecimal digits, and `*2,506; is 506 bytes, each a copy of the one 2 places before.
+#![tactic(auto)]
+
 mod ask;
 mod case;
 mod compare;
 mod packed;
 
-ghost use Rattle.std.specs.Prelude.{◌≤◌, length};
+ghost use Rattle.std.specs.Prelude.{◌≤◌, IfOk, length};
 ghost use Rattle.vectors.specs.Counts.{AtMost, Grows};
 
 use crate::case::{Case, read_head};
 use crate::compare::{Verdict, compare_body, compare_document, compare_page};
 use crate::packed::unpack;
-use libc::{STDIN_FILENO, STDOUT_FILENO};
+use std::io;
+use std::io::{Print, Read};
 
 // What was counted: cases, those of them whose answer is from the documents, answers and those of them that differ.
 #[derive(Clone, Copy)]
@@ -48,51 +51,53 @@ impl Tally {
     }
 
     // One answer more, told if it differs, with the letter of its kind.
-    fn with_answer(mut self, kind: u8, verdict: Verdict) -> Tally
+    fn with_answer(mut self, rt: &impl Print, kind: u8, verdict: Verdict) -> Tally
         requires { AtMost self 2000000 }
         ensures { Grows self result 1 }
     {
         self.answers = self.answers + 1;
         if let Verdict::Differs(number) = verdict {
-            tell(self.cases, kind, number);
+            tell(rt, self.cases, kind, number);
             self.differ = self.differ + 1;
         }
         self
     }
 }
 
-// Tells an answer that differs by the number of its line, its kind and the number that came.
-fn tell(line: u64, kind: u8, number: usize) {
-    io::write_all(STDOUT_FILENO, b"line ");
-    io::print_decimal(STDOUT_FILENO, line);
-    io::write_all(STDOUT_FILENO, b", ");
-    io::write_all(STDOUT_FILENO, &[kind]);
-    io::write_all(STDOUT_FILENO, b": answered ");
-    io::print_decimal(STDOUT_FILENO, number as u64);
-    io::write_all(STDOUT_FILENO, b", and differs\n");
+// Tells an answer that differs by the number of its line, its kind and the number that came; what cannot be written is still counted.
+fn tell(rt: &impl Print, line: u64, kind: u8, number: usize) {
+    let kind = kind as char;
+    let _ = println!(rt; "line {line}, {kind}: answered {number}, and differs");
 }
 
 // Asks what the kind of a case says, and counts each answer; the expected texts begin at a place of the line.
-fn count_answers(case: Case, text: &[u8], line: &[u8], at: usize, tally: Tally) -> Tally
+fn count_answers(
+    rt: &impl Print,
+    case: Case,
+    text: &[u8],
+    line: &[u8],
+    at: usize,
+    tally: Tally,
+) -> Tally
     requires { (at ≤ length line.now) × AtMost tally 1800000 }
     ensures { Grows tally result 2 }
 {
     let kind = case.kind;
     match kind {
         b'M' => {
-            let first = tally.with_answer(b'B', compare_body(case, text, line, at, true));
-            first.with_answer(b'I', compare_body(case, text, line, at, false))
+            let first = tally.with_answer(rt, b'B', compare_body(case, text, line, at, true));
+            first.with_answer(rt, b'I', compare_body(case, text, line, at, false))
         }
-        b'B' => tally.with_answer(b'B', compare_body(case, text, line, at, true)),
-        b'I' => tally.with_answer(b'I', compare_body(case, text, line, at, false)),
-        b'D' => tally.with_answer(b'D', compare_document(case, text, line, at)),
-        b'P' => tally.with_answer(b'P', compare_page(case, text, line, at)),
-        _ => tally.with_answer(b'?', Verdict::Differs(0)),
+        b'B' => tally.with_answer(rt, b'B', compare_body(case, text, line, at, true)),
+        b'I' => tally.with_answer(rt, b'I', compare_body(case, text, line, at, false)),
+        b'D' => tally.with_answer(rt, b'D', compare_document(case, text, line, at)),
+        b'P' => tally.with_answer(rt, b'P', compare_page(case, text, line, at)),
+        _ => tally.with_answer(rt, b'?', Verdict::Differs(0)),
     }
 }
 
 // Replays the case of a line.
-fn replay(line: &[u8], tally: Tally) -> Tally
+fn replay(rt: &impl Print, line: &[u8], tally: Tally) -> Tally
     requires { AtMost tally 1600000 }
     ensures { Grows tally result 3 }
 {
@@ -104,11 +109,11 @@ fn replay(line: &[u8], tally: Tally) -> Tally
     let n = input.end;
     let at = input.next;
     let counted = tally.with_case(case);
-    count_answers(case, &text[..n], line, at, counted)
+    count_answers(rt, case, &text[..n], line, at, counted)
 }
 
 // Replays the cases of all lines.
-fn replay_all(list: &[u8]) -> Tally
+fn replay_all(rt: &impl Print, list: &[u8]) -> Tally
     requires { length list.now ≤ 524288 }
 {
     let mut tally = Tally {
@@ -121,7 +126,7 @@ fn replay_all(list: &[u8]) -> Tally
     let mut i: usize = 0;
     while i < list.len() {
         if list[i] == b'\n' {
-            tally = replay(&list[start..i], tally);
+            tally = replay(rt, &list[start..i], tally);
             i += 1;
             start = i;
             continue;
@@ -132,19 +137,33 @@ fn replay_all(list: &[u8]) -> Tally
 }
 
 // Tells what was counted.
-fn conclude(tally: Tally) {
-    io::print_decimal(STDOUT_FILENO, tally.cases);
-    io::write_all(STDOUT_FILENO, b" cases, ");
-    io::print_decimal(STDOUT_FILENO, tally.scope);
-    io::write_all(STDOUT_FILENO, b" of them from the documents: ");
-    io::print_decimal(STDOUT_FILENO, tally.answers);
-    io::write_all(STDOUT_FILENO, b" answers compared, ");
-    io::print_decimal(STDOUT_FILENO, tally.differ);
-    io::write_all(STDOUT_FILENO, b" differ\n");
+fn conclude(rt: &impl Print, tally: Tally) -> io::Result<()> {
+    let Tally {
+        cases,
+        scope,
+        answers,
+        differ,
+    } = tally;
+    println!(rt; "{cases} cases, {scope} of them from the documents: {answers} answers compared, {differ} differ")
 }
 
-fn main() {
+// Reads until the buffer is full or the input ends, and answers how many bytes stand at its start.
+fn read_full<R: Read>(from: &mut R, input: &mut [u8]) -> io::Result<usize>
+    ensures { IfOk result (λ n. n ≤ length input.new) }
+{
+    let mut done: usize = 0;
+    while done < input.len() {
+        let n = from.read(&mut input[done..])?;
+        if n == 0 {
+            break;
+        }
+        done += n;
+    }
+    Ok(done)
+}
+
+fn main(rt: HostRuntime) -> io::Result<()> {
     let mut list = [0u8; 524288];
-    let n = io::read_full(STDIN_FILENO, &mut list);
-    conclude(replay_all(&list[..n]));
+    let n = read_full(&mut rt.stdin(), &mut list)?;
+    conclude(&rt, replay_all(&rt, &list[..n]))
 }
