@@ -3,7 +3,7 @@
 
   tools/table.py TOKEN.RS
 
-Run it at the repository's root, then `rt fmt`. It writes, below crates/token,
+Run it at the repository's root, then `rt fmt` in crates/token. It writes, below crates/token,
   specs/Table.antt  the names of the commands, sorted by their bytes, each with the code of its token
   specs/Code.antt   the token that a code stands for
   src/table.rt      both in Rattle, with a name as words of four bytes
@@ -24,7 +24,7 @@ STRING = r'"(?:\\.|[^"\\])*"'
 CHARACTER = r"'(?:\\.|[^'\\])+'"
 WIDTH = r"-?\d+\.(?:/\d+\.)?"
 
-# The arms of our own, `ownArms` of specs/Command.antt: each is taken instead of the Rust's arm of that name.
+# The arms of our own, `own_arms` of specs/Command.antt: each is taken instead of the Rust's arm of that name.
 OWN = {'"ni"': "Token::Operator('∋')"}
 
 # A command's name, in bytes and as the Rust quotes it, and its token: a form, and the number that its `n` stands for.
@@ -147,12 +147,11 @@ def hexadecimal(word):
 # ---- specs/Table.antt
 
 TABLE_SPEC = Template("""\
--- The command table: the names of `ownArms`, sorted by their bytes, each with the code of its token (`Code`). Written by tools/table.py;
--- the law file `Agree` shows its order, and that it says what `ownArms` says.
+-- The command table: the names of `own_arms`, sorted by their bytes, each with the code of its token (`Code`). Written by tools/table.py;
+-- the law file `Agree` shows its order, and that it says what `own_arms` says.
 -- Assumes nothing.
-use mathlib.Core.List.{List, [], _∷_}
-use Prim.Native.Nat.{ℕ}
-use Rattle·token·specs.specs.Spell.{Arm, _=>_}
+use Rattle.std.specs.Prelude.{ℕ, List, [], ◌∷◌}
+use Rattle.token.specs.Spell.{Arm, ◌=>◌}
 
 -- the number of its entries
 abbrev pub size : ℕ
@@ -175,15 +174,13 @@ def table_spec(arms, forms):
 CODE_SPEC = Template("""\
 -- The codes of the command table: the highest bit marks a code, the next seven are a form, and the form makes a token of the other 24.
 -- Assumes nothing.
-use mathlib.Core.List.{List, [], _∷_}
-use Prim.Native.Nat.{ℕ, _/_, _%_}
-use lib.ListN.{getD}
-use Rattle·attribute.specs.declared.Variant.the-variants.{$variant}
-use Rattle·attribute.specs.declared.Accent.the-variants.{$accent}
-use Rattle·attribute.specs.declared.DisplayStyle.the-variants.{$style}
-use Rattle·token·specs.specs.declared.Binomial.the-variants.{$binomial}
-use Rattle·token·specs.specs.declared.Token.{Token}
-use Rattle·token·specs.specs.declared.Token.the-variants.{EOF, $token}
+use Rattle.std.specs.Prelude.{ℕ, ◌/◌, ◌%◌, List, [], ◌∷◌, slice_index_or}
+use Rattle.attribute.specs.declared.Variant.TheVariants.{$variant}
+use Rattle.attribute.specs.declared.Accent.TheVariants.{$accent}
+use Rattle.attribute.specs.declared.DisplayStyle.TheVariants.{$style}
+use Rattle.token.specs.declared.Binomial.TheVariants.{$binomial}
+use Rattle.token.specs.declared.Token.{Token}
+use Rattle.token.specs.declared.Token.TheVariants.{EOF, $token}
 
 -- what each form makes of a number
 unfoldable pub forms : List (ℕ → Token)
@@ -191,8 +188,8 @@ forms =
 $forms    []
 
 -- the token that a code stands for
-unfoldable pub tokenOf : ℕ → Token
-tokenOf code = getD forms (code / 0x1000000 % 0x80) (λ n. EOF) (code % 0x1000000)
+unfoldable pub token_of : ℕ → Token
+token_of code = slice_index_or forms (code / 0x1000000 % 0x80) (λ n. EOF) (code % 0x1000000)
 """)
 
 
@@ -227,14 +224,12 @@ def as_function(form):
 SOURCE = Template("""\
 // The command table, sorted by name: a row has the words of a name, four bytes each, big-endian, with zeros behind its end, and the code
 // of its token, which alone has the highest bit. Written by tools/table.py from the Rust's token.rs.
-use super::Binomial;
-use super::Token;
-use attribute::Accent;
-use attribute::DisplayStyle;
-use attribute::Variant;
-ghost use mathlib.Core.Path.{_≡_};
-ghost use Rattle·token·specs.specs.Code.{tokenOf};
-ghost use Rattle·token·specs.specs.Key.{rows};
+ghost use Rattle.std.specs.Prelude.{◌≡◌};
+ghost use Rattle.token.specs.Code.{token_of};
+ghost use Rattle.token.specs.Key.{rows};
+
+use super::{Binomial, Token};
+use attribute::{Accent, DisplayStyle, Variant};
 
 // The number of its words.
 pub const LENGTH: usize = $length;
@@ -250,14 +245,14 @@ $rows];
 
 // The table, for a caller to lend. It is laid down anew by each call: an operation makes one.
 pub fn table() -> Table
-    ensures { λ r. ⌜ r ≡ rows ⌝ }
+    ensures { result ≡ rows }
 {
     TABLE
 }
 
 // The token that a code stands for: seven bits behind the mark are its form, the rest is what the form holds.
 pub fn token_of(code: u32) -> Token
-    ensures { λ r. ⌜ r ≡ tokenOf code ⌝ }
+    ensures { result ≡ token_of code }
 {
     let n = code % 0x1000000;
     match code / 0x1000000 % 0x80 {
