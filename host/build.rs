@@ -8,7 +8,7 @@ fn main() {
     println!("cargo::rerun-if-changed={}", archive.display());
     if !archive.is_file() {
         println!(
-            "cargo::error=target/staticlib/libpanel.a is missing: run `rt staticlib panel` in the repository's root, then this again"
+            "cargo::error=target/staticlib/libpanel.a is missing: run `tools/archive` in the repository's root, then this again"
         );
         return;
     }

@@ -6,10 +6,10 @@ use std::process::{Command, Stdio};
 
 /// What the program writes for a document.
 fn page_main(document: &[u8]) -> Vec<u8> {
-    let program = Path::new(env!("CARGO_MANIFEST_DIR")).join("../target/bin/page_main");
+    let program = Path::new(env!("CARGO_MANIFEST_DIR")).join("../crates/page_main/out/page_main");
     assert!(
         program.is_file(),
-        "target/bin/page_main is missing: run `rt check page_main` in the repository's root, then this again"
+        "crates/page_main/out/page_main is missing: run `rt run` in crates/page_main, then this again"
     );
     let mut child = Command::new(program)
         .stdin(Stdio::piped())

@@ -1,5 +1,8 @@
 // The operations as the panel's host program calls them: numbers and byte slices, and the number of a refusal, or 0, as the answer.
+// The crate panel_c exports them.
 // The three names of document 01 are of the old dialect. Those that end in `_in` take a yes or no for the strict one.
+#![tactic(auto)]
+
 ghost use Rattle.std.specs.Prelude.{◌≡◌, length};
 ghost use Rattle.latex2mathml.specs.Manner.{old, strict};
 ghost use Rattle.latex2mathml.specs.Translate.{translate};
@@ -54,8 +57,7 @@ fn in_numbers(answer: Answer, size: &mut u64) -> u32
 }
 
 // Body translation in a dialect.
-#[unsafe(no_mangle)]
-pub extern "C" fn latex_to_mathml_in(
+pub fn latex_to_mathml_in(
     latex: &[u8],
     block: bool,
     strict: bool,
@@ -72,8 +74,7 @@ pub extern "C" fn latex_to_mathml_in(
 }
 
 // Body translation.
-#[unsafe(no_mangle)]
-pub extern "C" fn latex_to_mathml(
+pub fn latex_to_mathml(
     latex: &[u8],
     block: bool,
     store: &mut [u8],
@@ -86,8 +87,7 @@ pub extern "C" fn latex_to_mathml(
 }
 
 // The converter of a body that was translated in the old dialect: it is translated again, in the strict one.
-#[unsafe(no_mangle)]
-pub extern "C" fn latex_convert(
+pub fn latex_convert(
     latex: &[u8],
     block: bool,
     store: &mut [u8],
@@ -102,8 +102,7 @@ pub extern "C" fn latex_convert(
 }
 
 // Replacement in a document, in a dialect; the work buffer is lent apart, since the text of pass one stands in it afterwards.
-#[unsafe(no_mangle)]
-pub extern "C" fn latex_replace_in(
+pub fn latex_replace_in(
     document: &[u8],
     strict: bool,
     store: &mut [u8],
@@ -119,8 +118,7 @@ pub extern "C" fn latex_replace_in(
 }
 
 // Replacement in a document.
-#[unsafe(no_mangle)]
-pub extern "C" fn latex_replace(
+pub fn latex_replace(
     document: &[u8],
     store: &mut [u8],
     work: &mut [u8],
@@ -133,8 +131,7 @@ pub extern "C" fn latex_replace(
 }
 
 // The page operation in a dialect; the counts tell the host how many paragraphs there are and how many were left as typed.
-#[unsafe(no_mangle)]
-pub extern "C" fn latex_page_in(
+pub fn latex_page_in(
     document: &[u8],
     strict: bool,
     store: &mut [u8],
@@ -164,8 +161,7 @@ pub extern "C" fn latex_page_in(
 }
 
 // The page operation.
-#[unsafe(no_mangle)]
-pub extern "C" fn latex_page(
+pub fn latex_page(
     document: &[u8],
     store: &mut [u8],
     work: &mut [u8],
