@@ -1,4 +1,4 @@
-//! The exported functions of `panel`, as the archive has them: a slice passes as a pointer and a length.
+//! The exported functions of `panel_c`, as the archive has them: a slice passes as a pointer and a length.
 
 extern "C" {
     pub fn latex_to_mathml(
