@@ -144,7 +144,9 @@ fn conclude(rt: &impl Print, tally: Tally) -> io::Result<()> {
         answers,
         differ,
     } = tally;
-    println!(rt; "{cases} cases, {scope} of them from the documents: {answers} answers compared, {differ} differ")
+    println!(rt;
+        "{cases} cases, {scope} of them from the documents: {answers} answers compared, {differ} differ"
+    )
 }
 
 // Reads until the buffer is full or the input ends, and answers how many bytes stand at its start.
@@ -162,8 +164,22 @@ fn read_full<R: Read>(from: &mut R, input: &mut [u8]) -> io::Result<usize>
     Ok(done)
 }
 
+// Reads the list of cases.
+fn read_list<R: Read>(from: &mut R, list: &mut [u8; 524288]) -> io::Result<usize>
+    ensures { IfOk result (λ n. n ≤ length list.new) }
+{
+    read_full(from, list)
+}
+
+// Replays the cases of the n bytes that were read.
+fn replay_first(rt: &impl Print, list: &[u8; 524288], n: usize) -> Tally
+    requires { n ≤ length list.now }
+{
+    replay_all(rt, &list[..n])
+}
+
 fn main(rt: HostRuntime) -> io::Result<()> {
     let mut list = [0u8; 524288];
-    let n = read_full(&mut rt.stdin(), &mut list)?;
-    conclude(&rt, replay_all(&rt, &list[..n]))
+    let n = read_list(&mut rt.stdin(), &mut list)?;
+    conclude(&rt, replay_first(&rt, &list, n))
 }
