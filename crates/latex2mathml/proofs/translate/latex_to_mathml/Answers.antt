@@ -59,8 +59,8 @@ put_math-requires c =
 
 pub returns-in-Refused : goal.returns-in-Refused
 returns-in-Refused c =
-    let b = read_refused c.args.manner c.args.s.now (length c.args.store.now) (rw c.in-Refused.is at c.parse.ensures) in
-    let g = gives_nothing c.args.out.now (body_no c.args.manner c.args.s.now c.args.display (length c.args.store.now) (length c.args.out.now) c.if-s-gt4096.false (sym c.well_formed-2.ensures ∙ c.if-not-well_formed.false) (sym c.has_nul.ensures ∙ c.if-has_nul.false) b) in
+    let r = read_refused c.args.manner c.args.s.now (length c.args.store.now) (rw c.in-Refused.is at c.parse.ensures) in
+    let g = gives_nothing c.args.out.now (body_no c.args.manner c.args.s.now c.args.display (length c.args.store.now) (length c.args.out.now) c.if-s-gt4096.false (sym c.well_formed-2.ensures ∙ c.if-not-well_formed.false) (sym c.has_nul.ensures ∙ c.if-has_nul.false) r) in
     (g, c.parse.auto.store)
 
 pub returns-else-out-length : goal.returns-else-out-length
