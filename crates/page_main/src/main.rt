@@ -1,15 +1,16 @@
 // The page program: standard input is a document, and standard output its page in the old dialect, or a line with the number of the refusal.
 #![tactic(auto)]
 
-ghost use Rattle.std.specs.Prelude.{◌≡◌, ◌≤◌, ◌<◌, true, IfOk, length, take};
+ghost use Rattle.std.specs.Prelude.{◌≡◌, ◌≤◌, ◌<◌, true, length, take};
 ghost use Rattle.text.specs.Put.{Room, Puts};
 ghost use Rattle.page_main.specs.Program.{read_limit, decimal, refusal, Answers};
 
 use error::Refusal;
+use input::read_full;
 use latex2mathml::{Manner, number};
 use page::{PageAnswer, page};
 use std::io;
-use std::io::{Print, Read};
+use std::io::Print;
 use text::Dialect;
 use text::put::put;
 
@@ -65,21 +66,6 @@ fn respond(input: &[u8; 32769], n: usize, out: &mut [u8; 65536]) -> usize
     ensures { (length input.now ≡ read_limit) × Answers (take n input.now) result out.new }
 {
     answer_first(input, n, out)
-}
-
-// Reads until the buffer is full or the input ends, and answers how many bytes stand at its start.
-fn read_full<R: Read>(from: &mut R, input: &mut [u8]) -> io::Result<usize>
-    ensures { IfOk result (λ n. n ≤ length input.new) }
-{
-    let mut done: usize = 0;
-    while done < input.len() {
-        let n = from.read(&mut input[done..])?;
-        if n == 0 {
-            break;
-        }
-        done += n;
-    }
-    Ok(done)
 }
 
 fn main(rt: HostRuntime) -> io::Result<()> {

@@ -25,6 +25,7 @@ ghost use Rattle.vectors.specs.Counts.{AtMost, Grows};
 use crate::case::{Case, read_head};
 use crate::compare::{Verdict, compare_body, compare_document, compare_page};
 use crate::packed::unpack;
+use input::read_full;
 use std::io;
 use std::io::{Print, Read};
 
@@ -147,21 +148,6 @@ fn conclude(rt: &impl Print, tally: Tally) -> io::Result<()> {
     println!(rt;
         "{cases} cases, {scope} of them from the documents: {answers} answers compared, {differ} differ"
     )
-}
-
-// Reads until the buffer is full or the input ends, and answers how many bytes stand at its start.
-fn read_full<R: Read>(from: &mut R, input: &mut [u8]) -> io::Result<usize>
-    ensures { IfOk result (λ n. n ≤ length input.new) }
-{
-    let mut done: usize = 0;
-    while done < input.len() {
-        let n = from.read(&mut input[done..])?;
-        if n == 0 {
-            break;
-        }
-        done += n;
-    }
-    Ok(done)
 }
 
 // Reads the list of cases.
