@@ -3,7 +3,7 @@
 
 usage: tools/respell.py [--check]
 
-Run it once, at the top, behind /opt/rattle/port/port.py, which respells only the names that the library has too. A definition or lemma is a name
+Run it once, at the top, behind the kit's port.py, which respells only the names that the library has too. A definition or lemma is a name
 that a file of specs/ or proofs/ declares outside the folder of a function's proof; goesOn becomes goes_on, any-more any_more, and holds, which is
 a fact, Holds. It turns .antt files, the clauses, ghost items and comments of .rt files, must-fail edits, and what README and docs/ name in
 backquotes. Names of Rust functions, generated names behind a dot and strings stay. Where a lemma would fall together with its definition,

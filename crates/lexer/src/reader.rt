@@ -22,7 +22,7 @@ impl<'a> Lexer<'a> {
     }
 }
 
-// The token of a text from a place on: with plain parameters, so that callers need no proof by hand.
+// The token of a text from a place on: with plain parameters.
 pub fn token_from(input: &[u8], at: usize, table: &Table) -> Lexeme
     requires { (at ≤ length input.now) × (table.now ≡ rows) }
     ensures { (result ≡ next_token at (drop at input.now)) × (result.end ≤ length input.now) }
