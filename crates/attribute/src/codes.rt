@@ -25,6 +25,7 @@ pub fn variant_code(v: Variant) -> u8
     }
 }
 
+#[tactic(auto, unfolding(crate::specs::Codes::variant_of, crate::specs::Codes::variants))]
 pub fn variant_of(n: u8) -> Variant
     ensures { result ≡ variant_of n }
 {

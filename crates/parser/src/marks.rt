@@ -47,6 +47,7 @@ fn mark_of(t: Token) -> Mark
 }
 
 // A number for each mark, by which two are compared.
+#[tactic(auto, unfolding(token::specs::Roles::mark_number))]
 fn mark_number(m: Mark) -> u8
     ensures { result ≡ mark_number m }
 {

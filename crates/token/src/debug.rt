@@ -11,6 +11,7 @@ use text::put::{put, put_packed};
 use text::xml::reference;
 
 // What a byte of a name is after both escapes, packed: it never has more than seven bytes.
+#[tactic(auto, unfolding(text::specs::Examples::text_opens, crate::specs::Debug::digit, crate::specs::Debug::hexadecimal, crate::specs::Debug::control, crate::specs::Debug::escapes, crate::specs::Debug::escape_by, crate::specs::Debug::escape))]
 fn escaped_twice(b: u8) -> u64
     ensures { unpacked result ≡ escape (escape_by escapes b) }
 {

@@ -140,6 +140,7 @@ pub fn text_len(n: u32) -> usize
 }
 
 // The length of what is printed for the width of a number.
+#[tactic(auto, unfolding(text::specs::Examples::text_opens, crate::specs::Texts::width_of, crate::specs::Texts::printed_widths))]
 pub fn width_len(n: u32) -> usize
     ensures { result ≡ length (bytes (width_of n)) }
 {

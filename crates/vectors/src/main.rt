@@ -19,7 +19,8 @@ mod case;
 mod compare;
 mod packed;
 
-ghost use Rattle.std.specs.Prelude.{◌≤◌, IfOk, length};
+ghost use Rattle.std.specs.Prelude.{◌≤◌, ◌<◌, IfOk, length, take};
+ghost use Rattle.std.specs.Io.KnownBytes.{Consumes, IsAtEnd};
 ghost use Rattle.vectors.specs.Counts.{AtMost, Grows};
 
 use crate::case::{Case, read_head};
@@ -152,7 +153,9 @@ fn conclude(rt: &impl Print, tally: Tally) -> io::Result<()> {
 
 // Reads the list of cases.
 fn read_list<R: Read>(from: &mut R, list: &mut [u8; 524288]) -> io::Result<usize>
-    ensures { IfOk result (λ n. n ≤ length list.new) }
+    ensures bound { IfOk result (λ n. n ≤ length list.new) }
+    ensures bytes { IfOk result (λ n. Consumes (R.remaining from.old) (R.remaining from.new) (take n list.new)) }
+    ensures end { IfOk result (λ n. n < length list.new → IsAtEnd (R.remaining from.new)) }
 {
     read_full(from, list)
 }
