@@ -7,7 +7,7 @@ Run it at the repository's root, then `rt fmt` in crates/token. It writes, below
   specs/Table.antt  the names of the commands, sorted by their bytes, each with the code of its token
   specs/Code.antt   the token that a code stands for
   src/table.rt      both in Rattle, with a name as words of four bytes
-Nothing of it is trusted: the check holds `table::table` to specs/Table.antt and `table::token_of` to specs/Code.antt,
+Nothing of it is trusted: the check holds `table::word_at` to specs/Table.antt and `table::token_of` to specs/Code.antt,
 and proofs/Agree.antt holds these two to the arms of specs/Command.antt: one of our own (OWN) before the Rust's.
 """
 import re
@@ -87,11 +87,11 @@ def unescape(quoted):
 
 
 def form_and_number(token):
-    """A token of the Rust as Rattle has it: with a number for a literal, and `Binomial` for `Option`."""
+    """A token of the Rust as Rattle has it: with a number for a literal."""
     literal = re.search(f"{STRING}|{CHARACTER}|{WIDTH}", token)
     if literal:
         return token.replace(literal[0], "n"), number(literal[0])
-    return token.replace("None", "Binomial::Plain").replace("Some", "Binomial::Styled"), 0
+    return token, 0
 
 
 def number(literal):
@@ -174,11 +174,10 @@ def table_spec(arms, forms):
 CODE_SPEC = Template("""\
 -- The codes of the command table: the highest bit marks a code, the next seven are a form, and the form makes a token of the other 24.
 -- Assumes nothing.
-use Rattle.std.specs.Prelude.{ℕ, ◌/◌, ◌%◌, List, [], ◌∷◌, slice_index_or}
+use Rattle.std.specs.Prelude.{ℕ, ◌/◌, ◌%◌, List, [], ◌∷◌, Some, None, slice_index_or}
 use Rattle.attribute.specs.declared.Variant.TheVariants.{$variant}
 use Rattle.attribute.specs.declared.Accent.TheVariants.{$accent}
 use Rattle.attribute.specs.declared.DisplayStyle.TheVariants.{$style}
-use Rattle.token.specs.declared.Binomial.TheVariants.{$binomial}
 use Rattle.token.specs.declared.Token.{Token}
 use Rattle.token.specs.declared.Token.TheVariants.{EOF, $token}
 
@@ -198,7 +197,6 @@ def code_spec(forms):
         variant=used("attribute", "Variant", forms),
         accent=used("attribute", "Accent", forms),
         style=used("attribute", "DisplayStyle", forms),
-        binomial=used("token", "Binomial", forms),
         token=used("token", "Token", forms),
         forms="".join(f"    {as_function(form)} ∷\n" for form in forms),
     )
@@ -224,11 +222,11 @@ def as_function(form):
 SOURCE = Template("""\
 // The command table, sorted by name: a row has the words of a name, four bytes each, big-endian, with zeros behind its end, and the code
 // of its token, which alone has the highest bit. Written by tools/table.py from the Rust's token.rs.
-ghost use Rattle.std.specs.Prelude.{◌≡◌};
+ghost use Rattle.std.specs.Prelude.{◌≡◌, ◌<◌, length, slice_index};
 ghost use Rattle.token.specs.Code.{token_of};
 ghost use Rattle.token.specs.Key.{rows};
 
-use super::{Binomial, Token};
+use super::Token;
 use attribute::{Accent, DisplayStyle, Variant};
 
 // The number of its words.
@@ -237,17 +235,16 @@ pub const LENGTH: usize = $length;
 // From this number on a word is a code.
 pub const MARK: u32 = 0x80000000;
 
-pub type Table = [u32; $length];
-
 // Each row begins with the comment that has its name.
-pub const TABLE: Table = [
+static TABLE: [u32; LENGTH] = [
 $rows];
 
-// The table, for a caller to lend. It is laid down anew by each call: an operation makes one.
-pub fn table() -> Table
-    ensures { result ≡ rows }
+// The word of the table at a place.
+pub fn word_at(i: usize) -> u32
+    requires { i < length rows }
+    ensures { result ≡ slice_index rows i }
 {
-    TABLE
+    TABLE[i]
 }
 
 // The token that a code stands for: seven bits behind the mark are its form, the rest is what the form holds.

@@ -1,13 +1,15 @@
 -- The marks among the nodes of a matrix, one node after the other.
 -- Assumes nothing.
 use mathlib.Core.Path.{◌≡◌, refl, sym, ap, ◌∙◌}
-use mathlib.Core.Bool.{Bool}
+use mathlib.Core.Bool.{Bool, true, false}
 use mathlib.Core.List.{List, [], ◌∷◌}
 use Prim.Native.Nat.{ℕ, zero, suc, ◌+◌, ◌-◌, ◌*◌, ◌≤◌, ◌<◌}
 use native.Mathlib.Omega.{arith}
-use native.Mathlib.Nat.{le_refl}
-use borrow.Author.Tests.{lt-ltb, le-ltb}
+use borrow.Author.Tests.{lt-ltb, le-ltb, ne_eqb}
+use lib.Dec.{eqb}
 use lib.ListN.{length, get_or, get_or-eq_default}
+use Rattle.std.specs.Int.{from_bool}
+use Rattle.text.proofs.Tabled.{each}
 use Rattle.text.proofs.Cases.{by_order}
 use Rattle.text.proofs.Keys.{NoneOf, elsewhere}
 use Rattle.ast.specs.declared.Leaf.{Leaf}
@@ -51,23 +53,23 @@ mark_small amp line (Shape.Three k) g h = omega arith
 mark_small amp line (Shape.Row n) g h = omega arith
 mark_small amp line (Shape.Matrix align n) g h = omega arith
 
--- of the n nodes from a on, those before k are added, and `todo` are left
-pub record Adding (f : Leaf → ℕ) (st : List ℕ) (n a k todo sum : ℕ) : Type 0 where
-  pub left : todo ≤ n
+-- of the n nodes from a on, the first `done` are added, and k is the next
+pub record Adding (f : Leaf → ℕ) (st : List ℕ) (n a k done sum : ℕ) : Type 0 where
+  pub todo : ℕ
+  pub left : done + todo ≡ n
   pub sofar : sum + cells f st todo k ≡ cells f st n a
   pub chain : Chain st todo k
-  pub small : sum + todo * 256 ≤ n * 256
-
-pub adding_none : {f : Leaf → ℕ} {st : List ℕ} {n a : ℕ} → Chain st n a → Adding f st n a a n 0
-adding_none {f} {st} {n} {a} h = record { left = le_refl n; sofar = omega arith; chain = h; small = omega arith }
+  pub small : sum ≤ done
 
 adding_in : (st : List ℕ) (todo k : ℕ) → 0 < todo → Chain st todo k → k * 24 + 24 ≤ length st
 unfolding Chain
 adding_in st zero k lt h = absurd (omega arith)
 adding_in st (suc n) k lt h = h.0
 
-pub adding_fits : {f : Leaf → ℕ} {st : List ℕ} {n a k todo sum : ℕ} → Adding f st n a k todo sum → 0 < todo → k * 24 + 24 ≤ length st
-adding_fits {f} {st} {n} {a} {k} {todo} {sum} g lt = adding_in st todo k lt g.chain
+pub adding_fits : {f : Leaf → ℕ} {st : List ℕ} {n a k done sum : ℕ} → Adding f st n a k done sum → done < n → k * 24 + 24 ≤ length st
+adding_fits {f} {st} {n} {a} {k} {done} {sum} g lt =
+    let e = g.left in
+    adding_in st g.todo k (omega arith) g.chain
 
 cells_step : (f : Leaf → ℕ) (st : List ℕ) (todo k : ℕ) → 0 < todo → Chain st todo k
     → (cells f st todo k ≡ mark_sum f (shape_at st k) + cells f st (todo - 1) (record_at st k).next) × Chain st (todo - 1) (record_at st k).next
@@ -77,57 +79,56 @@ cells_step f st (suc n) k lt h =
     let e : n ≡ suc n - 1 = omega arith in
     (ap (λ m. mark_sum f (shape_at st k) + cells f st m (record_at st k).next) e, rw (← e) h.1)
 
-pub adding_more : {f : Leaf → ℕ} {st : List ℕ} {n a k todo sum : ℕ} → Adding f st n a k todo sum → 0 < todo → mark_sum f (shape_at st k) < 256
-    → Adding f st n a (record_at st k).next (todo - 1) (sum + mark_sum f (shape_at st k))
-adding_more {f} {st} {n} {a} {k} {todo} {sum} g lt small =
-    let s = cells_step f st todo k lt g.chain in
-    let e = s.0 in
-    let l = g.left in
-    let t = g.sofar in
-    let u = g.small in
-    record { left = omega arith; sofar = omega arith; chain = s.1; small = omega arith }
+one_at_most : (b : Bool) → from_bool b ≤ 1
+one_at_most true = omega arith
+one_at_most false = omega arith
 
-pub adding_all : {f : Leaf → ℕ} {st : List ℕ} {n a k todo sum : ℕ} → Adding f st n a k todo sum → todo ≡ 0 → sum ≡ cells f st n a
+-- what the code reads of a node, which is a mark or none
+pub adding_more : {f : Leaf → ℕ} {st : List ℕ} {n a k done sum m : ℕ} {r : Record} (b : Bool) → Adding f st n a k done sum → done < n → r ≡ record_at st k
+    → m ≡ from_bool b → from_bool b ≡ mark_sum f (shape_of (fields_of r)) → Adding f st n a r.next (done + 1) (sum + m)
+unfolding shape_at
+adding_more {f} {st} {n} {a} {k} {done} {sum} {m} {r} b g lt er em is =
+    let e = g.left in
+    let s = cells_step f st g.todo k (omega arith) g.chain in
+    let here : m ≡ mark_sum f (shape_at st k) = em ∙ is ∙ ap (λ x. mark_sum f (shape_of (fields_of x))) er in
+    let t = s.0 in
+    let u = g.sofar in
+    let w = g.small in
+    rw er record { todo = g.todo - 1; left = omega arith; sofar = omega arith; chain = s.1; small = omega (arith, one_at_most b) }
+
+pub adding_all : {f : Leaf → ℕ} {st : List ℕ} {n a k done sum : ℕ} → Adding f st n a k done sum → n ≤ done → sum ≡ cells f st n a
 unfolding cells
-adding_all {f} {st} {n} {a} {k} {todo} {sum} g z =
-    let t : sum + cells f st 0 k ≡ cells f st n a = rw z at g.sofar in
+adding_all {f} {st} {n} {a} {k} {done} {sum} g le =
+    let e = g.left in
+    let none : g.todo ≡ 0 = omega arith in
+    let t : sum + cells f st 0 k ≡ cells f st n a = rw none at g.sofar in
     omega arith
 
--- what the code reads of a node
-pub adding_read : {st : List ℕ} {n a k todo sum amp line next m : ℕ} {r : Record} → Adding (marks amp line) st n a k todo sum → 0 < todo → amp < 256 → line < 256
-    → r ≡ record_at st k → next ≡ r.next → m ≡ mark_sum (marks amp line) (shape_of (fields_of r)) → Adding (marks amp line) st n a next (todo - 1) (sum + m)
-unfolding shape_at
-adding_read {st} {n} {a} {k} {todo} {sum} {amp} {line} {next} {m} {r} g lt ga gl er en em =
-    let is : m ≡ mark_sum (marks amp line) (shape_at st k) = em ∙ ap (λ x. mark_sum (marks amp line) (shape_of (fields_of x))) er in
-    let on : next ≡ (record_at st k).next = en ∙ ap (λ x. x.next) er in
-    rw (on, is) (adding_more g lt (mark_small amp line (shape_at st k) ga gl))
-
 -- the tag of a record says whether it is an ampersand, and whether it is a new line
-pub ampersand_here : (tag v x y : ℕ) → tag ≡ 11 → mark_sum (marks 1 0) (shape_of (numbers tag v x y)) ≡ 1
+pub ampersand_tag : (tag v x y : ℕ) → from_bool (eqb tag 11) ≡ mark_sum (marks 1 0) (shape_of (numbers tag v x y))
 unfolding shape_of shapes
-ampersand_here tag v x y e = rw e refl
-
-pub ampersand_else : (tag v x y : ℕ) → (tag ≡ 11 → ⊥) → mark_sum (marks 1 0) (shape_of (numbers tag v x y)) ≡ 0
-unfolding shape_of shapes
-ampersand_else tag v x y h =
+ampersand_tag tag v x y =
     by_order tag 36
-    (λ lt. elsewhere (λ n. mark_sum (marks 1 0) (get_or shapes n matrix_shape v x y)) 0 (11 ∷ []) 36 refl tag lt (tt, h))
-    (λ ge. ap (λ g. mark_sum (marks 1 0) (g v x y)) (get_or-eq_default shapes matrix_shape ge))
+    (λ lt. each (λ n. from_bool (eqb n 11)) (λ n. mark_sum (marks 1 0) (get_or shapes n matrix_shape v x y)) 36 refl tag lt)
+    (λ ge. rw (get_or-eq_default shapes matrix_shape ge, ne_eqb tag 11 (λ e. omega arith)) refl)
 
-pub line_here : (tag v x y : ℕ) → tag ≡ 12 → mark_sum (marks 0 1) (shape_of (numbers tag v x y)) ≡ 1
+pub line_tag : (tag v x y : ℕ) → from_bool (eqb tag 12) ≡ mark_sum (marks 0 1) (shape_of (numbers tag v x y))
 unfolding shape_of shapes
-line_here tag v x y e = rw e refl
-
-pub line_else : (tag v x y : ℕ) → (tag ≡ 12 → ⊥) → mark_sum (marks 0 1) (shape_of (numbers tag v x y)) ≡ 0
-unfolding shape_of shapes
-line_else tag v x y h =
+line_tag tag v x y =
     by_order tag 36
-    (λ lt. elsewhere (λ n. mark_sum (marks 0 1) (get_or shapes n matrix_shape v x y)) 0 (12 ∷ []) 36 refl tag lt (tt, h))
-    (λ ge. ap (λ g. mark_sum (marks 0 1) (g v x y)) (get_or-eq_default shapes matrix_shape ge))
+    (λ lt. each (λ n. from_bool (eqb n 12)) (λ n. mark_sum (marks 0 1) (get_or shapes n matrix_shape v x y)) 36 refl tag lt)
+    (λ ge. rw (get_or-eq_default shapes matrix_shape ge, ne_eqb tag 12 (λ e. omega arith)) refl)
 
 -- .. and what becomes of the record before it; the tags of a slashed node and of the stretched operators, the last first
 abbrev pub turning : List ℕ
 turning = 24 ∷ 7 ∷ 6 ∷ []
+
+pub stretched_fate : (tag v x y : ℕ) (r : Bool) → 6 ≤ tag → tag < 8 → fate (shape_of (numbers tag v x y)) r ≡ Fate.Dropped
+unfolding shape_of shapes
+stretched_fate tag v x y r ge lt =
+    by_order tag 7
+    (λ l. let e : tag ≡ 6 = omega arith in rw e refl)
+    (λ g. let e : tag ≡ 7 = omega arith in rw e refl)
 
 pub other_fate : (tag v x y : ℕ) (r : Bool) → tag < 36 → NoneOf turning tag → fate (shape_of (numbers tag v x y)) r ≡ Fate.Counted
 unfolding shape_of shapes

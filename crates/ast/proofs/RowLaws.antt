@@ -70,7 +70,7 @@ module _ (st st' : List ℕ) (l hi hi' x : ℕ) (t : Node) (put : Put st st' l (
         rest = rw e (append_next (suc f) (record_at st f).next f m ns h.rest);
       }
 
--- what append does before the first node
+-- what a push does before the first node
 linked_first : (st : List ℕ) (f l i lo p hi hi' : ℕ) (ns : Nodes) (t : Node) → HoldsAll st lo f p l hi ns → 0 ≡ count ns → Holds st hi i t → suc i ≡ hi'
     → HoldsAll st lo i p i hi' (snoc ns t)
 unfolding snoc count

@@ -132,7 +132,7 @@ pub enum Fate {
 }
 
 // The ampersands and the new lines among some nodes.
-#[derive(Clone, Copy)]
+#[derive(Clone, Copy, Default)]
 pub struct Marks {
     pub ampersands: usize,
     pub lines: usize,

@@ -1,33 +1,24 @@
 // Records put into a lent store and read from it.
-ghost use Rattle.std.specs.Prelude.{◌≡◌, ◌+◌, ◌*◌, ◌≤◌, ◌<◌, length};
+ghost use Rattle.std.specs.Prelude.{◌≡◌, ◌+◌, ◌*◌, ◌≤◌, ◌<◌, ◌%◌, ◌/◌, length, slice_set};
 ghost use Rattle.ast.specs.Store.{two, four, record_at, Small, Put};
 ghost use Rattle.ast.specs.Change.{with_next, with_attr};
 
 use crate::Record;
-
-// A byte as an index.
-fn wide(b: u8) -> usize
-    ensures { (result ≡ b) × (result < 256) }
-{
-    b as usize
-}
 
 // The number in two bytes.
 fn get_two(store: &[u8], o: usize) -> usize
     requires { o + 2 ≤ length store.now }
     ensures { (result ≡ two store.now o) × (result < 65536) }
 {
-    wide(store[o]) + wide(store[o + 1]) * 256
+    usize::from(u16::from_le_bytes([store[o], store[o + 1]]))
 }
 
-// The number in four bytes.
+// The number in four bytes. No trait has `from_le_bytes`, so that two and four bytes are no instances of one function.
 fn get_four(store: &[u8], o: usize) -> u32
     requires { o + 4 ≤ length store.now }
     ensures { result ≡ four store.now o }
 {
-    let low = get_two(store, o);
-    let high = get_two(store, o + 2);
-    (low + high * 65536) as u32
+    u32::from_le_bytes([store[o], store[o + 1], store[o + 2], store[o + 3]])
 }
 
 // The record at an index.
@@ -45,23 +36,46 @@ pub fn get_record(store: &[u8], i: usize) -> Record
     let x = get_four(store, o + 10);
     let y = get_four(store, o + 14);
     Record {
-        tag: tag,
-        attr: attr,
-        a: a,
-        b: b,
-        c: c,
-        next: next,
-        x: x,
-        y: y,
+        tag,
+        attr,
+        a,
+        b,
+        c,
+        next,
+        x,
+        y,
     }
 }
 
 // The next of the record at an index, by itself.
+#[tactic(auto, unfolding(crate::specs::Store::record_at, crate::specs::Store::record_of))]
 pub fn get_next(store: &[u8], i: usize) -> usize
     requires { i * 24 + 24 ≤ length store.now }
     ensures { (result ≡ (record_at store.now i).next) × (result < 65536) }
 {
     get_two(store, i * 24 + 8)
+}
+
+// Puts a number into two bytes.
+fn put_two(store: &mut [u8], o: usize, v: usize)
+    requires { (o + 2 ≤ length store.old) × (v < 65536) }
+    ensures { store.new ≡ slice_set (slice_set store.old o (v % 256)) (o + 1) (v / 256 % 256) }
+{
+    let [low, high] = (v as u16).to_le_bytes();
+    store[o] = low;
+    store[o + 1] = high;
+}
+
+// Puts a number into four bytes.
+fn put_four(store: &mut [u8], o: usize, v: u32)
+    requires { o + 4 ≤ length store.old }
+    ensures { store.new ≡ slice_set (slice_set (slice_set (slice_set store.old o (v % 256)) (o + 1) (v / 256 % 256)) (o + 2) (v / 65536 % 256)) (o + 3) (v / 16777216) }
+{
+    let [a, b, c, d] = v.to_le_bytes();
+    store[o] = a;
+    store[o + 1] = b;
+    store[o + 2] = c;
+    store[o + 3] = d;
 }
 
 // Puts a record at an index; the bytes after its numbers stay as they were.
@@ -70,30 +84,14 @@ pub fn put_record(store: &mut [u8], i: usize, r: Record)
     ensures { Put store.old store.new i r }
 {
     let o = i * 24;
-    let a = r.a;
-    let b = r.b;
-    let c = r.c;
-    let next = r.next;
-    let x = r.x;
-    let y = r.y;
     store[o] = r.tag;
     store[o + 1] = r.attr;
-    store[o + 2] = (a % 256) as u8;
-    store[o + 3] = (a / 256 % 256) as u8;
-    store[o + 4] = (b % 256) as u8;
-    store[o + 5] = (b / 256 % 256) as u8;
-    store[o + 6] = (c % 256) as u8;
-    store[o + 7] = (c / 256 % 256) as u8;
-    store[o + 8] = (next % 256) as u8;
-    store[o + 9] = (next / 256 % 256) as u8;
-    store[o + 10] = (x % 256) as u8;
-    store[o + 11] = (x / 256 % 256) as u8;
-    store[o + 12] = (x / 65536 % 256) as u8;
-    store[o + 13] = (x / 16777216) as u8;
-    store[o + 14] = (y % 256) as u8;
-    store[o + 15] = (y / 256 % 256) as u8;
-    store[o + 16] = (y / 65536 % 256) as u8;
-    store[o + 17] = (y / 16777216) as u8;
+    put_two(store, o + 2, r.a);
+    put_two(store, o + 4, r.b);
+    put_two(store, o + 6, r.c);
+    put_two(store, o + 8, r.next);
+    put_four(store, o + 10, r.x);
+    put_four(store, o + 14, r.y);
 }
 
 // Changes the next of the record at an index.
@@ -101,9 +99,7 @@ pub(crate) fn set_next(store: &mut [u8], i: usize, next: usize)
     requires { (i * 24 + 24 ≤ length store.old) × (next < 65536) }
     ensures { Put store.old store.new i (with_next (record_at store.old i) next) }
 {
-    let o = i * 24;
-    store[o + 8] = (next % 256) as u8;
-    store[o + 9] = (next / 256 % 256) as u8;
+    put_two(store, i * 24 + 8, next);
 }
 
 // Changes the attribute of the record at an index.

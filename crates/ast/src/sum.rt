@@ -12,30 +12,17 @@ use crate::{Fate, Marks, Record, Role};
 fn is_row(k: Role) -> bool
     ensures { result ≡ is_row k }
 {
-    match k {
-        Role::Letter => false,
-        Role::Operator(_) => false,
-        Role::OtherOperator(_) => false,
-        Role::Row(_) => true,
-        Role::Other => false,
-    }
+    matches!(k, Role::Row(_))
 }
 
 // The fate of a record by the one behind it: the operand of a stretched operator is dropped, and so is the row opened for a matrix.
 fn fate_by(behind: Record, r: Record) -> Fate
     ensures { result ≡ fate (shape_of (fields_of behind)) (is_row (role_of (shape_of (fields_of r)))) }
 {
-    let tag = behind.tag;
-    if 35 < tag {
-        if is_row(role_of(r)) {
-            return Fate::Dropped;
-        }
-        return Fate::Counted;
-    }
-    match tag {
-        6 => Fate::Dropped,
-        7 => Fate::Dropped,
+    match behind.tag {
+        6 | 7 => Fate::Dropped,
         24 => Fate::Slashed,
+        36.. if is_row(role_of(r)) => Fate::Dropped,
         _ => Fate::Counted,
     }
 }
@@ -47,29 +34,10 @@ pub fn fate_at(store: &[u8], top: usize, i: usize) -> Fate
 {
     let behind = i + 1;
     if behind < top {
-        return fate_by(get_record(store, behind), get_record(store, i));
+        fate_by(get_record(store, behind), get_record(store, i))
+    } else {
+        Fate::Counted
     }
-    Fate::Counted
-}
-
-// One for an ampersand, else nothing.
-fn ampersands_of(r: Record) -> usize
-    ensures { result ≡ mark_sum (marks 1 0) (shape_of (fields_of r)) }
-{
-    if r.tag == 11 {
-        return 1;
-    }
-    0
-}
-
-// One for a new line, else nothing.
-fn lines_of(r: Record) -> usize
-    ensures { result ≡ mark_sum (marks 0 1) (shape_of (fields_of r)) }
-{
-    if r.tag == 12 {
-        return 1;
-    }
-    0
 }
 
 // The marks among n nodes, each the next of the one before, from the index a on.
@@ -78,15 +46,12 @@ pub fn marks(store: &[u8], n: u32, a: usize) -> Marks
     ensures { (result.ampersands ≡ cells (marks 1 0) store.now n a) × (result.lines ≡ cells (marks 0 1) store.now n a) }
 {
     let mut k = a;
-    let mut todo = n;
-    let mut ampersands: usize = 0;
-    let mut lines: usize = 0;
-    while 0 < todo {
+    let mut found = Marks::default();
+    for _ in 0..n {
         let r = get_record(store, k);
-        ampersands += ampersands_of(r);
-        lines += lines_of(r);
+        found.ampersands += usize::from(r.tag == 11);
+        found.lines += usize::from(r.tag == 12);
         k = r.next;
-        todo -= 1;
     }
-    Marks { ampersands, lines }
+    found
 }

@@ -6,20 +6,6 @@ use crate::Role;
 use crate::codes::role_of;
 use crate::store::{get_next, get_record, set_attr};
 use attribute::Variant;
-use attribute::codes::variant_code;
-
-// How many nodes the variant is handed on to: a row's, and no other node's parts.
-fn row_count(k: Role) -> u32
-    ensures { result ≡ row_count k }
-{
-    match k {
-        Role::Letter => 0,
-        Role::Operator(_) => 0,
-        Role::OtherOperator(_) => 0,
-        Role::Row(n) => n,
-        Role::Other => 0,
-    }
-}
 
 // Gives each letter of the tree at an index the variant, through rows inside rows; no record is made. A row's nodes lie before it,
 // so that `left`, which is above the index, falls.
@@ -28,15 +14,15 @@ pub fn set_variant(store: &mut [u8], i: usize, v: Variant, left: usize)
     ensures { Sets store.old store.new i v }
 {
     let r = get_record(store, i);
-    let role = role_of(r);
-    if let Role::Letter = role {
-        return set_attr(store, i, variant_code(v));
-    }
-    let mut k = r.a;
-    let mut n = row_count(role);
-    while 0 < n {
-        set_variant(store, k, v, left - 1);
-        k = get_next(store, k);
-        n -= 1;
+    match role_of(r) {
+        Role::Letter => set_attr(store, i, u8::from(v)),
+        Role::Row(n) => {
+            let mut k = r.a;
+            for _ in 0..n {
+                set_variant(store, k, v, left - 1);
+                k = get_next(store, k);
+            }
+        }
+        _ => {}
     }
 }

@@ -1,61 +1,98 @@
 -- The line ends at a place of a text, where the next break begins, and where it ends.
 -- Assumes nothing.
 use mathlib.Core.Path.{◌≡◌, refl, sym, ◌∙◌, ap}
-use mathlib.Core.Bool.{Bool, true, false, not, ◌&&◌, and-false, and-eq-true_iff, false≢true}
+use mathlib.Core.Bool.{Bool, true, false, not, ◌&&◌, and-false, and-eq-true_iff, true≢false, false≢true}
 use mathlib.Core.List.{List, [], ◌∷◌}
 use Prim.Native.Nat.{ℕ, zero, suc, ◌+◌, ◌-◌, ◌≤◌, ◌<◌}
-use native.Mathlib.Numerals.{add-one}
 use native.Mathlib.Nat.{add-zero}
 use native.Mathlib.Omega.{arith}
 use lib.Dec.{eqb}
-use lib.ListN.{length, drop, get_or, length-drop, drop_of_length-le}
-use lib.Seq.{drop-cons, drop-drop}
-use borrow.Author.Tests.{eqb-true, ne_eqb}
+use lib.ListN.{length, take, drop, get_or, length-drop, get_or-eq_default}
+use lib.Seq.{drop-drop}
+use borrow.Author.Tests.{eqb-true, eqb-false, ne_eqb}
+use Rattle.std.specs.Option.{is_some, option_eq}
+use Rattle.std.specs.Prelude.{Option, Some, None}
+use Rattle.std.proofs.lemmas.List.{take_rest}
 use Rattle.text.proofs.Cases.{by_test, by_order}
 use Rattle.dollars.specs.Places.{next_place}
 use Rattle.dollars.specs.Search.{starts_with}
 use Rattle.dollars.proofs.PlaceLaws.{next_here, next_more, next_end, next_within, next_is}
-use Rattle.breaks.specs.Breaks.{line_feed, line_end, in_line_end, two_line_ends, no_line_end}
+use Rattle.breaks.specs.Breaks.{FindsEnd, line_feed, line_end, in_line_end, two_line_ends, no_line_end}
 use Rattle.breaks.proofs.LineEndLaws.{by_head, feed_one, end_fits, none_in, none_two}
 
--- a byte is a line feed where it stands
-line_feed_at : (s : List ℕ) (i : ℕ) → line_feed (drop i s) ≡ eqb (get_or s i 0) 10
-unfolding line_feed
-line_feed_at [] zero = refl
-line_feed_at [] (suc i) = refl
-line_feed_at (b ∷ s) zero = refl
-line_feed_at (b ∷ s) (suc i) = line_feed_at s i
+-- The line end at the head of some bytes, by the first of them and the next.
+head_feed : (l : List ℕ) → get_or l 0 0 ≡ 10 → line_end l ≡ 1
+unfolding line_end
+head_feed [] e = absurd (omega arith)
+head_feed (b ∷ l) e = rw (line_end, e)
 
-abbrev width_of : Bool → Bool → ℕ
-width_of feed return = elim feed [ true ↦ 1 | false ↦ elim return [ true ↦ 2 | false ↦ 0 ] ]
+head_return : (l : List ℕ) → get_or l 0 0 ≡ 13 → get_or l 1 0 ≡ 10 → line_end l ≡ 2
+unfolding line_end line_feed
+head_return [] e f = absurd (omega arith)
+head_return (b ∷ []) e f = absurd (omega arith)
+head_return (b ∷ c ∷ l) e f = rw (e, f)
 
--- The line end at the place i, by the byte there and the next.
+head_other : (l : List ℕ) → (get_or l 0 0 ≡ 10 → ⊥) → (get_or l 0 0 ≡ 13 → ⊥) → line_end l ≡ 0
+unfolding line_end
+head_other [] e f = refl
+head_other (b ∷ l) e f = rw (line_end, ne_eqb b 10 e, ne_eqb b 13 f)
+
+head_alone : (l : List ℕ) → (get_or l 0 0 ≡ 10 → ⊥) → (get_or l 1 0 ≡ 10 → ⊥) → line_end l ≡ 0
+unfolding line_end line_feed
+head_alone [] e f = refl
+head_alone (b ∷ []) e f = rw (line_end, ne_eqb b 10 e, and-false (eqb b 13))
+head_alone (b ∷ c ∷ l) e f = rw (line_end, ne_eqb b 10 e, ne_eqb c 10 f, and-false (eqb b 13))
+
+-- The line end at the place i of a text, by what stands from there on.
 module _ (s : List ℕ) (i : ℕ) where
-  pub end_outside : length s ≤ i → line_end (drop i s) ≡ 0
-  unfolding line_end
-  end_outside h = rw (drop_of_length-le s h)
+  abbrev rest : List ℕ
+  rest = take (length s - i) (drop i s)
 
-  module _ (inside : i < length s) where
-    end_at : line_end (drop i s) ≡ width_of (eqb (get_or s i 0) 10) (eqb (get_or s i 0) 13 && eqb (get_or s (i + 1) 0) 10)
-    unfolding line_end
-    end_at = rw (add-one, ← line_feed_at s (suc i)) (ap line_end (drop-cons s i 0 inside))
+  at_rest : line_end (drop i s) ≡ line_end rest
+  at_rest = ap line_end (sym (take_rest s i))
 
-    pub end_feed : get_or s i 0 ≡ 10 → line_end (drop i s) ≡ 1
-    end_feed e = end_at ∙ rw e
+  pub end_feed : get_or rest 0 0 ≡ 10 → 1 ≡ line_end (drop i s)
+  end_feed e = sym (at_rest ∙ head_feed rest e)
 
-    pub end_other : (get_or s i 0 ≡ 10 → ⊥) → (get_or s i 0 ≡ 13 → ⊥) → line_end (drop i s) ≡ 0
-    end_other e f = end_at ∙ rw (ne_eqb _ 10 e, ne_eqb _ 13 f)
+  pub end_return : get_or rest 0 0 ≡ 13 → get_or rest 1 0 ≡ 10 → 2 ≡ line_end (drop i s)
+  end_return e f = sym (at_rest ∙ head_return rest e f)
 
-    pub end_return : get_or s i 0 ≡ 13 → get_or s (i + 1) 0 ≡ 10 → line_end (drop i s) ≡ 2
-    end_return e f = end_at ∙ rw (e, f)
+  pub end_other : (get_or rest 0 0 ≡ 10 → ⊥) → (get_or rest 0 0 ≡ 13 → ⊥) → line_end (drop i s) ≡ 0
+  end_other e f = at_rest ∙ head_other rest e f
 
-    pub end_alone : (get_or s i 0 ≡ 10 → ⊥) → (get_or s (i + 1) 0 ≡ 10 → ⊥) → line_end (drop i s) ≡ 0
-    end_alone e f = end_at ∙ rw (ne_eqb _ 10 e, ne_eqb _ 10 f, and-false (eqb (get_or s i 0) 13))
+  pub end_alone : (get_or rest 0 0 ≡ 10 → ⊥) → (get_or rest 1 0 ≡ 10 → ⊥) → line_end (drop i s) ≡ 0
+  end_alone e f = at_rest ∙ head_alone rest e f
+
+  pub end_none : length rest < 1 → line_end (drop i s) ≡ 0
+  end_none h = end_other (λ e. omega (arith, get_or-eq_default rest 0 {n = 0} (omega arith))) (λ e. omega (arith, get_or-eq_default rest 0 {n = 0} (omega arith)))
+
+  pub end_short : length rest < 2 → (get_or rest 0 0 ≡ 10 → ⊥) → line_end (drop i s) ≡ 0
+  end_short h e = end_alone e (λ f. omega (arith, get_or-eq_default rest 0 {n = 1} (omega arith)))
 
   -- two line ends are a line end, of w bytes, and one behind it
   pub two_at : (w : ℕ) → w ≡ line_end (drop i s) → two_line_ends (drop i s) ≡ (not (eqb w 0) && not (eqb (line_end (drop (i + w) s)) 0))
   unfolding two_line_ends in_line_end
   two_at w e = rw (e, ← drop-drop (line_end (drop i s)) i s)
+
+pub ruleset ends = (end_feed, end_return, end_other, end_alone, end_none, end_short)
+
+-- What is found says whether a line end has bytes, and whether it has two.
+module _ (s : List ℕ) (i : ℕ) where
+  pub some_end : (found : Option ℕ) → FindsEnd s i found → true ≡ is_some found → line_end (drop i s) ≡ 0 → ⊥
+  some_end None h e z = true≢false e
+  some_end (Some w) h e z = omega (arith, h.0, h.1)
+
+  pub none_end : (found : Option ℕ) → FindsEnd s i found → false ≡ is_some found → line_end (drop i s) ≡ 0
+  none_end None h e = h
+  none_end (Some w) h e = absurd (false≢true e)
+
+  pub both_end : (found : Option ℕ) → FindsEnd s i found → true ≡ option_eq eqb found (Some 2) → line_end (drop i s) ≡ 2
+  both_end None h e = absurd (true≢false e)
+  both_end (Some w) h e = sym h.0 ∙ eqb-true w 2 (sym e)
+
+  pub other_end : (found : Option ℕ) → FindsEnd s i found → false ≡ option_eq eqb found (Some 2) → line_end (drop i s) ≡ 2 → ⊥
+  other_end None h e two = omega (arith, h)
+  other_end (Some w) h e two = eqb-false w 2 (sym e) (h.0 ∙ two)
 
 -- a line feed that a blank line follows
 abbrev pub blank_behind : List ℕ → Bool
@@ -83,11 +120,8 @@ module _ (s : List ℕ) (i r : ℕ) (h : i ≤ length s) (e : r ≡ next_place (
     pub blank_more : line_end (drop (r + 1) s) ≡ 0 → next_place blank_behind i (drop i s) ≡ next_place blank_behind (r + 1) (drop (r + 1) s)
     blank_more none = to_feed ∙ next_more blank_behind s r l (by_behind ∙ rw none)
 
-  pub blank_none : r ≤ length s → length s - r < 2 → next_place blank_behind i (drop i s) ≡ length s
-  blank_none inside short =
-      by_order r (length s)
-      (λ l. blank_more l (end_outside s (r + 1) (omega arith)) ∙ next_end blank_behind s (r + 1) (omega arith) ∙ omega arith)
-      (λ l. to_feed ∙ next_end blank_behind s r l ∙ omega arith)
+  pub blank_none : r ≡ length s → next_place blank_behind i (drop i s) ≡ length s
+  blank_none none = to_feed ∙ next_end blank_behind s r (omega arith) ∙ none
 
 -- Two line ends begin at such a line feed, or at a CR directly before it.
 two_none : (l : List ℕ) → blank_behind l ≡ false → (line_end l ≡ 2 → blank_behind (drop 1 l) ≡ false) → two_line_ends l ≡ false

@@ -1,6 +1,6 @@
 -- Line ends, and where a break begins and ends.
 -- Assumes nothing.
-use Rattle.std.specs.Prelude.{Bool, true, false, not, ◌&&◌, List, [], ◌∷◌, ℕ, eqb, drop}
+use Rattle.std.specs.Prelude.{◌≡◌, Bool, true, false, not, ◌&&◌, List, [], ◌∷◌, ℕ, ◌+◌, ◌≤◌, ◌<◌, eqb, length, drop, Option, MatchOption}
 use Prim.Native.Char.{code}
 
 -- the bytes begin with a line feed
@@ -16,6 +16,10 @@ line_end (b ∷ l) =
       | true ↦ 1
       | false ↦ elim (eqb b (code "\r") && line_feed l) [ true ↦ 2 | false ↦ 0 ]
     ]
+
+-- the line end at the place i of a text, all of which is in the text, is found, or none stands there
+abbrev pub FindsEnd : List ℕ → ℕ → Option ℕ → Type 0
+FindsEnd s i found = MatchOption found (line_end (drop i s) ≡ 0) (λ w. (w ≡ line_end (drop i s)) × (0 < w) × (i + w ≤ length s))
 
 -- the first byte belongs to a line end
 unfoldable pub in_line_end : List ℕ → Bool

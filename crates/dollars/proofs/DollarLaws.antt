@@ -1,7 +1,7 @@
 -- Dollars side by side, and whether marks are odd in number.
 -- Assumes nothing.
 use mathlib.Core.Path.{◌≡◌, refl, sym, ◌∙◌, ap, fun_ext}
-use mathlib.Core.Bool.{Bool, true, false, not, xor, ◌&&◌, and-false, false≢true}
+use mathlib.Core.Bool.{Bool, true, false, not, xor, beq, ◌&&◌, ◌||◌, and-false, or-true, or-false, false≢true}
 use mathlib.Core.List.{List, [], ◌∷◌}
 use Prim.Native.Nat.{ℕ, zero, suc, ◌+◌, ◌-◌, ◌≤◌, ◌<◌, ◌%◌}
 use native.Mathlib.Omega.{arith}
@@ -10,10 +10,14 @@ use lib.Dec.{eqb, ltb}
 use lib.ListN.{length, drop, get_or, drop_of_length-le}
 use lib.Seq.{drop-drop}
 use borrow.Author.Tests.{eqb-true, eqb-false, eq-eqb, ne_eqb, lt-ltb, ltb-false, not-true}
+use Rattle.text.specs.Any.{any, contains}
 use Rattle.text.specs.Plain.{plain}
+use Rattle.text.proofs.AnyLaws.{any_here, any_more}
 use Rattle.text.proofs.Cases.{never, by_test, by_order}
-use Rattle.text.proofs.PlainLaws.{plain_cons, plain_drop}
-use Rattle.dollars.specs.Dollars.{dollar, two_dollars, three_dollars, mark, width}
+use Rattle.text.proofs.PlainLaws.{plain_is, plain_cons, plain_drop}
+use Rattle.dollars.specs.declared.Delimiter.{Delimiter}
+use Rattle.dollars.specs.declared.Delimiter.TheVariants.{Single, Double}
+use Rattle.dollars.specs.Dollars.{dollar, two_dollars, three_dollars, mark, width, unusual, is_prose}
 use Rattle.dollars.specs.Places.{places, odd, next_place}
 use Rattle.dollars.specs.Search.{starts_with, pair}
 use Rattle.dollars.proofs.PlaceLaws.{next_is, next_none, places_here, places_more, places_end, places_none, places_first, skipped}
@@ -57,7 +61,7 @@ module _ (s : List ℕ) (i : ℕ) where
   three_at a b first last = rw (first, drop-drop 2 i s, last)
 
 -- no dollar stands behind the end
-dollar_end : (s : List ℕ) (i : ℕ) → length s ≤ i → dollar (drop i s) ≡ false
+pub dollar_end : (s : List ℕ) (i : ℕ) → length s ≤ i → dollar (drop i s) ≡ false
 unfolding dollar
 dollar_end s i h = rw (drop_of_length-le s h)
 
@@ -75,15 +79,31 @@ module _ (s : List ℕ) (i r : ℕ) (h : i ≤ length s) (e : r ≡ next_place t
       let none = next_none three_dollars s r k (λ j l. three_at s j _ false refl (dollar_end s (j + 2) (omega arith)) ∙ and-false (two_dollars (drop j s))) in
       three_next ∙ places_none three_dollars s r (length s) k (sym none) refl
 
-  pub three_here : r + 2 < length s → get_or s (r + 2) 0 ≡ 36 → ltb 0 (length (places three_dollars i (drop i s))) ≡ true
-  three_here l b =
-      rw (three_next, places_here three_dollars s r (omega arith) (three_at s r true true (first_two (omega arith)) (dollar_is s (r + 2) b)))
-      (lt-ltb 0 (suc (length (places three_dollars (r + 1) (drop (r + 1) s)))) (omega arith))
+  module _ (l : r < length s) where
+    pub three_here : dollar (drop (r + 2) s) ≡ true → true ≡ ltb 0 (length (places three_dollars i (drop i s)))
+    three_here third =
+        rw (three_next, places_here three_dollars s r l (three_at s r true true (first_two l) third))
+        (sym (lt-ltb 0 (suc (length (places three_dollars (r + 1) (drop (r + 1) s)))) (omega arith)))
 
-  pub three_more : r + 2 < length s → (get_or s (r + 2) 0 ≡ 36 → ⊥)
-      → places three_dollars i (drop i s) ≡ places three_dollars (r + 1) (drop (r + 1) s)
-  three_more l b =
-      three_next ∙ places_more three_dollars s r (omega arith) (three_at s r true false (first_two (omega arith)) (dollar_not s (r + 2) b))
+    pub three_more : dollar (drop (r + 2) s) ≡ false → places three_dollars i (drop i s) ≡ places three_dollars (r + 1) (drop (r + 1) s)
+    three_more other = three_next ∙ places_more three_dollars s r l (three_at s r true false (first_two l) other)
+
+-- one more byte, where the flag f says of those before whether one passes
+pub any_next : (test : ℕ → Bool) (s : List ℕ) (i : ℕ) (f : Bool) → i < length s
+    → (f || any test (drop i s)) ≡ ((f || test (get_or s i 0)) || any test (drop (i + 1) s))
+any_next test s i f l =
+    by_test (test (get_or s i 0))
+    (λ t. any_here test s i f l t ∙ rw (t, or-true f))
+    (λ t. any_more test s i f l t ∙ rw (t, or-false f))
+
+-- no flag says that a text is no prose
+pub prose_flags : (s : List ℕ) (u d : Bool) → any unusual s ≡ u → contains 36 s ≡ d → not (u || d) ≡ is_prose s
+unfolding is_prose
+prose_flags s u d e f = rw (← e, ← f, plain_is s) (not_either (any unusual s) (contains 36 s))
+  where
+    not_either : (a b : Bool) → not (a || b) ≡ (not a && not b)
+    not_either true b = refl
+    not_either false b = refl
 
 -- one more place makes odd even and even odd
 odd_more : (r : ℕ) (l : List ℕ) → odd (r ∷ l) ≡ not (odd l)
@@ -111,15 +131,22 @@ unfolding xor
 xor_false true = refl
 xor_false false = refl
 
+flip_here : (o : Bool) → not (beq o true) ≡ not o
+flip_here true = refl
+flip_here false = refl
+
+flip_past : (o : Bool) → not (beq o false) ≡ o
+flip_past true = refl
+flip_past false = refl
+
 -- Whether the dollars from i on are odd in number, with o for those before.
 module _ (s : List ℕ) (i : ℕ) (o : Bool) where
-  pub odd_here : i < length s → get_or s i 0 ≡ 36
-      → xor o (odd (places dollar i (drop i s))) ≡ xor (not o) (odd (places dollar (i + 1) (drop (i + 1) s)))
-  odd_here l e = rw (places_here dollar s i l (dollar_is s i e), odd_more) (flipped o _)
-
-  pub odd_past : i < length s → (get_or s i 0 ≡ 36 → ⊥)
-      → xor o (odd (places dollar i (drop i s))) ≡ xor o (odd (places dollar (i + 1) (drop (i + 1) s)))
-  odd_past l e = rw (places_more dollar s i l (dollar_not s i e))
+  pub odd_more_bytes : i < length s
+      → xor o (odd (places dollar i (drop i s))) ≡ xor (not (beq o (eqb (get_or s i 0) 36))) (odd (places dollar (i + 1) (drop (i + 1) s)))
+  odd_more_bytes l =
+      by_test (eqb (get_or s i 0) 36)
+      (λ t. rw (t, flip_here, places_here dollar s i l (dollar_is s i (eqb-true _ _ t)), odd_more) (flipped o _))
+      (λ t. rw (t, flip_past, places_more dollar s i l (dollar_not s i (eqb-false _ _ t))))
 
   pub odd_end : length s ≤ i → xor o (odd (places dollar i (drop i s))) ≡ o
   unfolding odd
@@ -159,27 +186,27 @@ none_listed [] e = refl
 none_listed (b ∷ l) e = let z = ltb-false 0 (suc (length l)) e in absurd (omega arith)
 
 -- a text without dollars has no marks
-mark_none : (double : Bool) (s : List ℕ) (j : ℕ) → dollar (drop j s) ≡ false → mark double (drop j s) ≡ false
-mark_none true s j e = two_at s j false _ e refl
-mark_none false s j e = e
+mark_none : (delimiter : Delimiter) (s : List ℕ) (j : ℕ) → dollar (drop j s) ≡ false → mark delimiter (drop j s) ≡ false
+mark_none Double s j e = two_at s j false _ e refl
+mark_none Single s j e = e
 
 dollarless : (l : List ℕ) → plain l ≡ true → dollar l ≡ false
 unfolding dollar
 dollarless [] h = refl
 dollarless (b ∷ l) h = not-true (eqb b 36) (plain_cons b l h).0
 
-pub plain_none : (double : Bool) (s : List ℕ) → plain s ≡ true → next_place (mark double) 0 s ≡ length s
-plain_none double s h =
-    next_none (mark double) s 0 (omega arith) (λ j l. mark_none double s j (dollarless (drop j s) (plain_drop j s h)))
+pub plain_none : (delimiter : Delimiter) (s : List ℕ) → plain s ≡ true → next_place (mark delimiter) 0 s ≡ length s
+plain_none delimiter s h =
+    next_none (mark delimiter) s 0 (omega arith) (λ j l. mark_none delimiter s j (dollarless (drop j s) (plain_drop j s h)))
 
 -- where no three dollars stand in a row, the marks behind a mark are those behind its last dollar
-pub record Behind (double : Bool) (s : List ℕ) (a : ℕ) : Type 0 where
-  pub inside : a + width double ≤ length s
-  pub marks : places (mark double) (a + 1) (drop (a + 1) s) ≡ places (mark double) (a + width double) (drop (a + width double) s)
+pub record Behind (delimiter : Delimiter) (s : List ℕ) (a : ℕ) : Type 0 where
+  pub inside : a + width delimiter ≤ length s
+  pub marks : places (mark delimiter) (a + 1) (drop (a + 1) s) ≡ places (mark delimiter) (a + width delimiter) (drop (a + width delimiter) s)
 
-pub behind : (double : Bool) (s : List ℕ) (a : ℕ) → (double ≡ true → ltb 0 (length (places three_dollars 0 s)) ≡ false)
-    → a < length s → mark double (drop a s) ≡ true → Behind double s a
-behind true s a apart l passed =
+pub behind : (delimiter : Delimiter) (s : List ℕ) (a : ℕ) → (delimiter ≡ Double → ltb 0 (length (places three_dollars 0 s)) ≡ false)
+    → a < length s → mark delimiter (drop a s) ≡ true → Behind delimiter s a
+behind Double s a apart l passed =
     let next : dollar (drop (a + 1) s) ≡ true =
     by_test (dollar (drop (a + 1) s))
     (λ t. t)
@@ -189,7 +216,7 @@ behind true s a apart l passed =
     let two : a + 1 + 1 ≡ a + 2 = omega arith in
     let third : dollar (drop (a + 1 + 1) s) ≡ false = rw two (sym (three_at s a true _ passed refl) ∙ three) in
     record { inside = omega arith; marks = rw (← two) (places_more two_dollars s (a + 1) inner (two_at s (a + 1) true false next third)) }
-behind false s a apart l passed = record { inside = omega arith; marks = refl }
+behind Single s a apart l passed = record { inside = omega arith; marks = refl }
 
 -- two marks more leave the marks odd or even
 even_rest : (a b : ℕ) (l : List ℕ) → odd (a ∷ b ∷ l) ≡ false → odd l ≡ false
@@ -198,36 +225,36 @@ even_rest a b l e =
     let y = odd_more b l in
     by_test (odd l) (λ t. let x = rw t at y in let w = rw x at z in never cc) (λ t. t)
 
-some_wide : (double : Bool) → 1 ≤ width double
-some_wide true = omega arith
-some_wide false = omega arith
+some_wide : (delimiter : Delimiter) → 1 ≤ width delimiter
+some_wide Double = omega arith
+some_wide Single = omega arith
 
 -- the marks from a place on are a first and a second one, and those behind it
-pub record Pair (double : Bool) (s : List ℕ) (w from a b : ℕ) : Type 0 where
-  pub marks : places (mark double) from (drop from s) ≡ a ∷ b ∷ places (mark double) (b + w) (drop (b + w) s)
+pub record Pair (delimiter : Delimiter) (s : List ℕ) (w from a b : ℕ) : Type 0 where
+  pub marks : places (mark delimiter) from (drop from s) ≡ a ∷ b ∷ places (mark delimiter) (b + w) (drop (b + w) s)
   pub some : 1 ≤ w
   pub first : from ≤ a
   pub gap : a + w ≤ b
   pub last : b + w ≤ length s
-  pub even : odd (places (mark double) (b + w) (drop (b + w) s)) ≡ false
+  pub even : odd (places (mark delimiter) (b + w) (drop (b + w) s)) ≡ false
 
-module _ (double : Bool) (s : List ℕ) (apart : double ≡ true → ltb 0 (length (places three_dollars 0 s)) ≡ false) (w : ℕ) (wide : w ≡ width double) where
+module _ (delimiter : Delimiter) (s : List ℕ) (apart : delimiter ≡ Double → ltb 0 (length (places three_dollars 0 s)) ≡ false) (w : ℕ) (wide : w ≡ width delimiter) where
   -- a mark that is next has its dollars in the text
-  pub mark_next : (from a : ℕ) → from ≤ length s → a ≡ next_place (mark double) from (drop from s) → a < length s → Behind double s a
-  mark_next from a h e l = behind double s a apart l ((rw (← e) at (next_is (mark double) s from h)).passes l)
+  pub mark_next : (from a : ℕ) → from ≤ length s → a ≡ next_place (mark delimiter) from (drop from s) → a < length s → Behind delimiter s a
+  mark_next from a h e l = behind delimiter s a apart l ((rw (← e) at (next_is (mark delimiter) s from h)).passes l)
 
-  pub mark_inside : (from a : ℕ) → from ≤ length s → a ≡ next_place (mark double) from (drop from s) → a < length s → a + w ≤ length s
+  pub mark_inside : (from a : ℕ) → from ≤ length s → a ≡ next_place (mark delimiter) from (drop from s) → a < length s → a + w ≤ length s
   mark_inside from a h e l = rw wide (mark_next from a h e l).inside
 
-  marks_next : (from a : ℕ) → from ≤ length s → a ≡ next_place (mark double) from (drop from s) → a < length s
-      → places (mark double) from (drop from s) ≡ a ∷ places (mark double) (a + w) (drop (a + w) s)
-  marks_next from a h e l = places_first (mark double) s from a h e l ∙ rw wide (ap (λ z. a ∷ z) (mark_next from a h e l).marks)
+  marks_next : (from a : ℕ) → from ≤ length s → a ≡ next_place (mark delimiter) from (drop from s) → a < length s
+      → places (mark delimiter) from (drop from s) ≡ a ∷ places (mark delimiter) (a + w) (drop (a + w) s)
+  marks_next from a h e l = places_first (mark delimiter) s from a h e l ∙ rw wide (ap (λ z. a ∷ z) (mark_next from a h e l).marks)
 
-  pub pair_next : (from a b : ℕ) → from ≤ length s → odd (places (mark double) from (drop from s)) ≡ false
-      → a ≡ next_place (mark double) from (drop from s) → a < length s → b ≡ next_place (mark double) (a + w) (drop (a + w) s) → Pair double s w from a b
+  pub pair_next : (from a b : ℕ) → from ≤ length s → odd (places (mark delimiter) from (drop from s)) ≡ false
+      → a ≡ next_place (mark delimiter) from (drop from s) → a < length s → b ≡ next_place (mark delimiter) (a + w) (drop (a + w) s) → Pair delimiter s w from a b
   unfolding odd
   pair_next from a b h even e l f =
-      let test = mark double in
+      let test = mark delimiter in
       let x = next_is test s from h in
       let inner = mark_inside from a h e l in
       let y = next_is test s (a + w) inner in
@@ -240,7 +267,7 @@ module _ (double : Bool) (s : List ℕ) (apart : double ≡ true → ltb 0 (leng
       one ∙ ap (λ z. a ∷ z) (marks_next (a + w) b inner f more) in
       record {
         marks = both-marks;
-        some = rw wide (some_wide double);
+        some = rw wide (some_wide delimiter);
         first = omega (arith, x.from);
         gap = omega (arith, y.from);
         last = mark_inside (a + w) b inner f more;

@@ -1,26 +1,31 @@
 -- A byte found by words: the test of a word goes byte by byte, since no sum reaches the next byte; and two bytes alike.
 -- Assumes nothing.
 use mathlib.Core.Path.{◌≡◌, refl, sym, ◌∙◌, ap, ap₂}
-use mathlib.Core.Bool.{Bool, true, false, not, ◌&&◌, ◌||◌, and-false}
-use mathlib.Core.List.{List, ◌∷◌}
-use Prim.Native.Nat.{ℕ, zero, suc, ◌+◌, ◌-◌, ◌*◌, ◌/◌, ◌%◌, ◌^◌, ◌≤◌, ◌<◌}
-use native.Mathlib.Nat.{mod-lt, lt_of_le_of_lt, lt_of_lt_of_le, add-zero}
+use mathlib.Core.Bool.{Bool, true, false, not, not-not, ◌&&◌, ◌||◌, and-false}
+use mathlib.Core.List.{List, [], ◌∷◌}
+use Prim.Native.Nat.{ℕ, zero, suc, ◌+◌, ◌-◌, ◌*◌, ◌/◌, ◌%◌, ◌≤◌, ◌<◌}
+use native.Mathlib.Nat.{mod-lt, lt_of_le_of_lt, add-zero, div-div-eq-div-mul}
 use native.Mathlib.Omega.{arith}
 use lib.Dec.{eqb, lit<}
 use lib.Arith.{digits_div, digits_mod}
-use lib.ListN.{length, take, drop, get_or, drop_of_length-le}
+use lib.ListN.{length, take, drop, get_or, length-drop, drop_of_length-le, get_or-eq_default}
 use lib.Seq.{drop-cons, drop-drop}
-use lib.Pow.{pow_pos, pow-add, pow_mono, split}
+use lib.Pow.{pow_pos, split}
 use lib.Bits.{bit_and, bit_or, bit_xor, and_block, or_block, xor_block, and_le_l, and_le_r, and_zero_r, or_lt, xor_lt, xor_self, xor_add_and}
 use borrow.Author.Tests.{eqb-true, eqb-false, eq-eqb, ne_eqb}
+use Rattle.std.specs.Int.{w64, to_le_bytes, from_le_bytes}
+use Rattle.std.specs.Simd.{first_chunks}
+use Rattle.std.proofs.lemmas.List.{take_rest}
+use Rattle.std.proofs.lemmas.Nat.{le_bytes_8}
+use Rattle.std.proofs.lemmas.Simd.{get_or-chunk, length-chunk}
 use Rattle.text.specs.Any.{any, contains}
 use Rattle.text.specs.Put.{digits}
 use Rattle.dollars.specs.Places.{next_place}
 use Rattle.dollars.specs.Search.{starts_with, pair}
 use Rattle.text.proofs.AnyLaws.{none_cons}
-use Rattle.text.proofs.Cases.{by_test}
+use Rattle.text.proofs.Cases.{by_test, by_order}
 use Rattle.text.proofs.Tabled.{each}
-use Rattle.dollars.proofs.PlaceLaws.{next_here, next_more, next_none, next_within, next_is}
+use Rattle.dollars.proofs.PlaceLaws.{next_here, next_more, next_end, next_within, next_is}
 
 -- n bytes that are all c
 unfoldable pub all : ℕ → ℕ → ℕ
@@ -101,13 +106,9 @@ turned (suc n) w c h =
     ∙ ap (contains 0) (low_byte n (bit_xor a (all n c)) (bit_xor b c) (xor_lt 8 b c l h))
     ∙ ap₂ ◌||◌ (same_bits b c) (turned n a c h)
 
-not_twice : (b : Bool) → not (not b) ≡ b
-not_twice true = refl
-not_twice false = refl
-
 -- some high bit is missing exactly where one of the n bytes is c
 pub exact : (n w c : ℕ) → c < 256 → not (eqb (marks n (bit_xor w (all n c))) (all n 128)) ≡ contains c (digits n w)
-exact n w c h = ap not (marked n (bit_xor w (all n c))) ∙ not_twice (contains 0 (digits n (bit_xor w (all n c)))) ∙ turned n w c h
+exact n w c h = ap not (marked n (bit_xor w (all n c))) ∙ not-not (contains 0 (digits n (bit_xor w (all n c)))) ∙ turned n w c h
 
 -- n bytes without b are passed
 pub passed : (b n : ℕ) (s : List ℕ) (i : ℕ) → i + n ≤ length s → contains b (take n (drop i s)) ≡ false
@@ -120,20 +121,39 @@ passed b (suc n) s i h e =
     let k : suc i + n ≡ i + suc n = omega arith in
     rw (drop-cons s i 0 inside, next_place, starts_with, none.0) (passed b n s (suc i) (omega arith) none.1 ∙ ap (λ j. next_place (starts_with b) j (drop j s)) k)
 
--- the bytes of a text from j on as a word, and the byte before them
-module _ (s : List ℕ) (k j : ℕ) (w : ℕ) where
-  pub word_more : suc j ≤ length s → get_or s j 0 < 256 → digits k w ≡ take k (drop (suc j) s)
-      → digits (suc k) (w * 256 + get_or s j 0) ≡ take (suc k) (drop j s)
-  word_more h low e = low_byte k w (get_or s j 0) low ∙ rw (drop-cons s j 0 h, e)
+-- the bytes of a word are those that it was read from
+module _ (s : List ℕ) (i : ℕ) (inside : i + 8 ≤ length s) (low : (j : ℕ) → get_or s j 0 < 256) where
+  word_low : (j : ℕ) → get_or (take 8 (drop i s)) j 0 < 256
+  word_low j =
+      by_order j 8
+      (λ l. rw (get_or-chunk i 8 s j 0 l) (low (i + j)))
+      (λ l. rw (get_or-eq_default (take 8 (drop i s)) 0 {n = j} (omega (arith, length-chunk i 8 s inside))) (lit< tt))
 
--- k bytes are below 2 ^ (8 k), and so is one byte more while there are fewer than eight
-pub word_room : (k w b : ℕ) → w < 2 ^ (8 * k) → b < 256 → w * 256 + b < 2 ^ (8 * suc k)
-word_room k w b h l =
-    let e : 8 * suc k ≡ 8 * k + 8 = omega arith in
-    rw (e, pow-add 2 (8 * k) 8) (omega arith)
+  pub word_bytes : (w : ℕ) → w ≡ from_le_bytes w64 (take 8 (drop i s)) → digits 8 w ≡ take 8 (drop i s)
+  unfolding digits
+  word_bytes w e =
+      let same : digits 8 w ≡ to_le_bytes w64 w = simp div-div-eq-div-mul in
+      same ∙ le_bytes_8 (take 8 (drop i s)) w (length-chunk i 8 s inside) word_low e
 
-pub word_fits : (k w : ℕ) → k < 8 → w < 2 ^ (8 * k) → w < 2 ^ 56
-word_fits k w h l = lt_of_lt_of_le l (pow_mono {j = 56} (omega arith))
+-- the words of a text, one behind the other
+chunk_at : (n : ℕ) (xs : List ℕ) (k : ℕ) → k < n → get_or (first_chunks 8 n xs) k [] ≡ take 8 (drop (8 * k) xs)
+chunk_at zero xs k h = absurd (omega arith)
+chunk_at (suc n) xs zero h = refl
+chunk_at (suc n) xs (suc k) h =
+    let e : 8 + 8 * k ≡ 8 * suc k = omega arith in
+    chunk_at n (drop 8 xs) k (omega arith) ∙ rw (drop-drop (8 * k) 8 xs, e)
+
+module _ (s : List ℕ) (from : ℕ) (h : from ≤ length s) where
+  abbrev rest : List ℕ
+  rest = take (length s - from) (drop from s)
+
+  pub word_at : (words : List (List ℕ)) (k : ℕ) → words ≡ first_chunks 8 (length rest / 8) rest → length words ≡ length rest / 8 → k < length words
+      → (from + 8 * k + 8 ≤ length s) × (get_or words k [] ≡ take 8 (drop (from + 8 * k) s))
+  word_at words k e n l =
+      let whole = take_rest s from in
+      let long : length rest ≡ length s - from = rw whole (length-drop from s) in
+      let there : drop (8 * k) rest ≡ drop (from + 8 * k) s = rw whole (drop-drop (8 * k) from s) in
+      (omega arith, ap (λ (z : List (List ℕ)). get_or z k []) e ∙ chunk_at (length rest / 8) rest k (omega arith) ∙ ap (take 8) there)
 
 -- a byte is at the head where it stands
 starts_at : (b : ℕ) (s : List ℕ) (i : ℕ) → i < length s → starts_with b (drop i s) ≡ eqb (get_or s i 0) b
@@ -148,7 +168,7 @@ module _ (b : ℕ) (s : List ℕ) (i : ℕ) (h : i < length s) where
   starts_not e = starts_at b s i h ∙ ne_eqb _ _ e
 
 -- no byte stands behind the end
-starts_end : (b : ℕ) (s : List ℕ) (i : ℕ) → length s ≤ i → starts_with b (drop i s) ≡ false
+pub starts_end : (b : ℕ) (s : List ℕ) (i : ℕ) → length s ≤ i → starts_with b (drop i s) ≡ false
 unfolding starts_with
 starts_end b s i h = rw (drop_of_length-le s h)
 
@@ -161,15 +181,14 @@ module _ (b : ℕ) (s : List ℕ) (i r : ℕ) (h : i ≤ length s) (e : r ≡ ne
   from_there : next_place (pair b) i (drop i s) ≡ next_place (pair b) r (drop r s)
   from_there = next_within (starts_with b) s (pair b) (λ j failed. pair_at b s j false _ failed refl) i r h e
 
-  pub pair_here : r + 1 < length s → get_or s (r + 1) 0 ≡ b → next_place (pair b) i (drop i s) ≡ r
-  pair_here l f =
-      let first = (rw (← e) at (next_is (starts_with b) s i h)).passes (omega arith) in
-      from_there ∙ next_here (pair b) s r (omega arith) (pair_at b s r true true first (starts_is b s (r + 1) l f))
+  module _ (l : r < length s) where
+    pub pair_here : starts_with b (drop (r + 1) s) ≡ true → next_place (pair b) i (drop i s) ≡ r
+    pair_here second =
+        let first = (rw (← e) at (next_is (starts_with b) s i h)).passes l in
+        from_there ∙ next_here (pair b) s r l (pair_at b s r true true first second)
 
-  pub pair_more : r + 1 < length s → (get_or s (r + 1) 0 ≡ b → ⊥) → next_place (pair b) i (drop i s) ≡ next_place (pair b) (r + 1) (drop (r + 1) s)
-  pair_more l f =
-      from_there ∙ next_more (pair b) s r (omega arith) (pair_at b s r _ false refl (starts_not b s (r + 1) l f) ∙ and-false (starts_with b (drop r s)))
+    pub pair_more : starts_with b (drop (r + 1) s) ≡ false → next_place (pair b) i (drop i s) ≡ next_place (pair b) (r + 1) (drop (r + 1) s)
+    pair_more other = from_there ∙ next_more (pair b) s r l (pair_at b s r _ false refl other ∙ and-false (starts_with b (drop r s)))
 
-  pub pair_none : r ≤ length s → length s - r < 2 → next_place (pair b) i (drop i s) ≡ length s
-  pair_none inside short =
-      from_there ∙ next_none (pair b) s r inside (λ j l. pair_at b s j _ false refl (starts_end b s (j + 1) (omega arith)) ∙ and-false (starts_with b (drop j s)))
+  pub pair_none : r ≡ length s → next_place (pair b) i (drop i s) ≡ length s
+  pair_none none = from_there ∙ next_end (pair b) s r (omega arith) ∙ none

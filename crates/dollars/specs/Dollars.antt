@@ -1,9 +1,11 @@
 -- Dollars, the marks of each pass, and prose, in which there is none.
 -- Assumes nothing.
-use Rattle.std.specs.Prelude.{Bool, true, false, not, ◌&&◌, ◌||◌, List, [], ◌∷◌, ℕ, eqb, ltb, drop}
+use Rattle.std.specs.Prelude.{Bool, false, not, ◌&&◌, ◌||◌, List, [], ◌∷◌, ℕ, eqb, ltb, drop}
 use Prim.Native.Char.{code}
 use Rattle.text.specs.Any.{any}
 use Rattle.text.specs.Plain.{plain}
+use Rattle.dollars.specs.declared.Delimiter.{Delimiter}
+use Rattle.dollars.specs.declared.Delimiter.TheVariants.{Single, Double}
 
 -- the bytes begin with a dollar, with two, with three
 unfoldable pub dollar : List ℕ → Bool
@@ -17,13 +19,13 @@ unfoldable pub three_dollars : List ℕ → Bool
 three_dollars l = two_dollars l && dollar (drop 2 l)
 
 -- a mark is two dollars in pass one, one in pass two
-abbrev pub mark : Bool → List ℕ → Bool
-mark true = two_dollars
-mark false = dollar
+abbrev pub mark : Delimiter → List ℕ → Bool
+mark Single = dollar
+mark Double = two_dollars
 
-abbrev pub width : Bool → ℕ
-width true = 2
-width false = 1
+abbrev pub width : Delimiter → ℕ
+width Single = 1
+width Double = 2
 
 -- a byte is NUL, or not ASCII
 unfoldable pub unusual : ℕ → Bool

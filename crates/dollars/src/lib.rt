@@ -3,29 +3,38 @@
 
 pub mod search;
 
-ghost use Rattle.std.specs.Prelude.{◌≡◌, ◌≤◌, ltb, length, drop};
-ghost use Rattle.dollars.specs.Dollars.{dollar, two_dollars, three_dollars, mark, unusual, is_prose};
-ghost use Rattle.dollars.specs.Places.{places, odd, next_place};
+ghost use Rattle.std.specs.Prelude.{◌≡◌, ◌≤◌, ltb, length};
+ghost use Rattle.dollars.specs.Dollars.{dollar, two_dollars, three_dollars, mark, width, unusual, is_prose};
+ghost use Rattle.dollars.specs.Places.{places, odd, Finds};
 
 use crate::search::{next_byte, next_pair};
 use text::contains;
 
-// The place of the first dollar from a place on, or the length.
-fn next_dollar(s: &[u8], from: usize) -> usize
-    requires { from ≤ length s.now }
-    ensures { (result ≡ next_place dollar from (drop from s.now)) × (from ≤ result) × (result ≤ length s.now) }
-{
-    next_byte(s, from, b'$')
+// What stands before and behind a formula: one dollar or two.
+#[derive(Clone, Copy, PartialEq, Eq)]
+pub enum Delimiter {
+    Single,
+    Double,
+}
+
+impl Delimiter {
+    // The number of its dollars.
+    pub fn width(self) -> usize
+        ensures { result ≡ width self }
+    {
+        match self {
+            Delimiter::Single => 1,
+            Delimiter::Double => 2,
+        }
+    }
 }
 
 // Whether a byte is NUL, or not ASCII.
+#[tactic(auto, unfolding(crate::specs::Dollars::unusual))]
 fn is_unusual(b: u8) -> bool
     ensures { result ≡ unusual b }
 {
-    if b == 0 {
-        return true;
-    }
-    0x7f < b
+    b == 0 || 0x7f < b
 }
 
 // Whether no byte is NUL or above 127, and none is a dollar. A flag for each test, so that many bytes are tested at once: one flag that is
@@ -35,62 +44,41 @@ pub fn is_prose(s: &[u8]) -> bool
 {
     let mut unusual = false;
     let mut dollar = false;
-    let mut i = 0;
-    while i < s.len() {
-        if is_unusual(s[i]) {
-            unusual = true;
-        }
-        if s[i] == b'$' {
-            dollar = true;
-        }
-        i += 1;
+    for &b in s {
+        unusual |= is_unusual(b);
+        dollar |= b == b'$';
     }
-    if unusual {
-        return false;
-    }
-    !dollar
+    !(unusual | dollar)
 }
 
-// The place of the first two dollars side by side from a place on, or the length.
-fn next_window(s: &[u8], from: usize) -> usize
+// The place of the next mark from a place on.
+pub fn next_mark(s: &[u8], from: usize, delimiter: Delimiter) -> Option<usize>
     requires { from ≤ length s.now }
-    ensures { (result ≡ next_place two_dollars from (drop from s.now)) × (from ≤ result) × (result ≤ length s.now) }
+    ensures { Finds (mark delimiter) s.now from result }
 {
-    next_pair(s, from, b'$')
-}
-
-// The place of the next mark, which is one dollar or two.
-pub fn next_mark(s: &[u8], from: usize, double: bool) -> usize
-    requires { from ≤ length s.now }
-    ensures { (result ≡ next_place (mark double) from (drop from s.now)) × (from ≤ result) × (result ≤ length s.now) }
-{
-    if double {
-        return next_window(s, from);
+    match delimiter {
+        Delimiter::Single => next_byte(s, from, b'$'),
+        Delimiter::Double => next_pair(s, from, b'$'),
     }
-    next_dollar(s, from)
 }
 
-// The place of the first mark, or the length; a text without dollars has none.
-pub fn first_mark(s: &[u8], double: bool) -> usize
-    ensures { result ≡ next_place (mark double) 0 s.now }
+// The place of the first mark; a text without dollars has none.
+pub fn first_mark(s: &[u8], delimiter: Delimiter) -> Option<usize>
+    ensures { Finds (mark delimiter) s.now 0 result }
 {
-    if contains(s, b'$') {
-        return next_mark(s, 0, double);
+    if !contains(s, b'$') {
+        return None;
     }
-    s.len()
+    next_mark(s, 0, delimiter)
 }
 
-// Whether the number of dollars is odd. Many bytes are tested at once, as above.
+// Whether the number of dollars is odd. Many bytes are tested at once, as above: a walk from mark to mark, as below, takes several times as long.
 fn odd_dollars(s: &[u8]) -> bool
     ensures { result ≡ odd (places dollar 0 s.now) }
 {
     let mut is_odd = false;
-    let mut i = 0;
-    while i < s.len() {
-        if s[i] == b'$' {
-            is_odd = !is_odd;
-        }
-        i += 1;
+    for &b in s {
+        is_odd ^= b == b'$';
     }
     is_odd
 }
@@ -101,24 +89,21 @@ fn odd_windows(s: &[u8]) -> bool
 {
     let mut is_odd = false;
     let mut i = 0;
-    loop {
-        i = next_window(s, i);
-        if i == s.len() {
-            return is_odd;
-        }
+    while let Some(first) = next_mark(s, i, Delimiter::Double) {
         is_odd = !is_odd;
-        i += 1; // windows may overlap
+        i = first + 1; // windows may overlap
     }
+    is_odd
 }
 
 // Whether the number of marks is odd.
-pub fn odd_marks(s: &[u8], double: bool) -> bool
-    ensures { result ≡ odd (places (mark double) 0 s.now) }
+pub fn odd_marks(s: &[u8], delimiter: Delimiter) -> bool
+    ensures { result ≡ odd (places (mark delimiter) 0 s.now) }
 {
-    if double {
-        return odd_windows(s);
+    match delimiter {
+        Delimiter::Single => odd_dollars(s),
+        Delimiter::Double => odd_windows(s),
     }
-    odd_dollars(s)
 }
 
 // Whether three dollars stand in a row.
@@ -126,14 +111,11 @@ pub fn three_dollars(s: &[u8]) -> bool
     ensures { result ≡ ltb 0 (length (places three_dollars 0 s.now)) }
 {
     let mut i = 0;
-    loop {
-        i = next_window(s, i);
-        if s.len() - i < 3 {
-            return false;
-        }
-        if s[i + 2] == b'$' {
+    while let Some(first) = next_mark(s, i, Delimiter::Double) {
+        i = first + 1;
+        if first + 2 < s.len() && s[first + 2] == b'$' {
             return true;
         }
-        i += 1;
     }
+    false
 }

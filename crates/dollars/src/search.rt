@@ -1,37 +1,17 @@
-// The search for a byte, and for two alike, by words of eight bytes.
-ghost use Rattle.std.specs.Prelude.{◌≡◌, ◌+◌, ◌≤◌, ◌<◌, length, take, drop};
+// The search for a byte, and for two alike, by words of eight bytes. It is given a text and a place in it, and not what stands behind the
+// place, so that each answer is a place of the whole text.
+ghost use Rattle.std.specs.Prelude.{◌≡◌, ◌≤◌, length, drop};
 ghost use Rattle.text.specs.Any.{contains};
 ghost use Rattle.text.specs.Put.{digits};
-ghost use Rattle.dollars.specs.Places.{next_place};
+ghost use Rattle.dollars.specs.Places.{Finds, next_place};
 ghost use Rattle.dollars.specs.Search.{starts_with, pair};
-
-// A byte as a word.
-fn wide(x: u8) -> u64
-    ensures { (result ≡ x) × (result < 256) }
-{
-    x as u64
-}
-
-// The eight bytes from a place on as a word, the first of them the lowest; the compiler makes one load of the eight.
-fn word_at(s: &[u8], i: usize) -> u64
-    requires { i + 8 ≤ length s.now }
-    ensures { digits 8 result ≡ take 8 (drop i s.now) }
-{
-    let mut w: u64 = 0;
-    let mut k = 0;
-    while k < 8 {
-        w = w * 256 + wide(s[i + 7 - k]);
-        k += 1;
-    }
-    w
-}
 
 // Whether one of the eight bytes of a word is b. Such a byte differs from b in no bit; seven ones added to the seven low bits of what
 // differs set the high bit of every other byte, and no such sum reaches the next byte.
 fn has_byte(w: u64, b: u8) -> bool
     ensures { result ≡ contains b (digits 8 w) }
 {
-    let other = w ^ wide(b) * 0x0101_0101_0101_0101;
+    let other = w ^ u64::from(b) * 0x0101_0101_0101_0101;
     let sum = (other & 0x7f7f_7f7f_7f7f_7f7f) + 0x7f7f_7f7f_7f7f_7f7f;
     (sum | other) & 0x8080_8080_8080_8080 != 0x8080_8080_8080_8080
 }
@@ -41,45 +21,39 @@ fn past_words(s: &[u8], from: usize, b: u8) -> usize
     requires { from ≤ length s.now }
     ensures { (next_place (starts_with b) from (drop from s.now) ≡ next_place (starts_with b) result (drop result s.now)) × (from ≤ result) × (result ≤ length s.now) }
 {
-    let mut i = from;
-    while 8 <= s.len() - i {
-        if has_byte(word_at(s, i), b) {
-            return i;
+    let (words, _) = s[from..].as_chunks::<8>();
+    for (k, word) in words.iter().enumerate() {
+        if has_byte(u64::from_le_bytes(*word), b) {
+            return from + 8 * k;
         }
-        i += 8;
     }
-    i
+    from + 8 * words.len()
 }
 
-// The place of the first b from a place on, or the length: words without one are passed, and the bytes left go one by one.
-pub fn next_byte(s: &[u8], from: usize, b: u8) -> usize
+// The place of the first b from a place on: words without one are passed, and the bytes left go one by one.
+pub fn next_byte(s: &[u8], from: usize, b: u8) -> Option<usize>
     requires { from ≤ length s.now }
-    ensures { (result ≡ next_place (starts_with b) from (drop from s.now)) × (from ≤ result) × (result ≤ length s.now) }
+    ensures { Finds (starts_with b) s.now from result }
 {
-    let mut i = past_words(s, from, b);
-    while i < s.len() {
+    for i in past_words(s, from, b)..s.len() {
         if s[i] == b {
-            return i;
+            return Some(i);
         }
-        i += 1;
     }
-    i
+    None
 }
 
-// The place of the first two b side by side from a place on, or the length.
-pub fn next_pair(s: &[u8], from: usize, b: u8) -> usize
+// The place of the first two b side by side from a place on.
+pub fn next_pair(s: &[u8], from: usize, b: u8) -> Option<usize>
     requires { from ≤ length s.now }
-    ensures { (result ≡ next_place (pair b) from (drop from s.now)) × (from ≤ result) × (result ≤ length s.now) }
+    ensures { Finds (pair b) s.now from result }
 {
     let mut i = from;
-    loop {
-        i = next_byte(s, i, b);
-        if s.len() - i < 2 {
-            return s.len();
+    while let Some(first) = next_byte(s, i, b) {
+        i = first + 1;
+        if i < s.len() && s[i] == b {
+            return Some(first);
         }
-        if s[i + 1] == b {
-            return i;
-        }
-        i += 1;
     }
+    None
 }

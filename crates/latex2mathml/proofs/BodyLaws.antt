@@ -1,28 +1,28 @@
 -- The markup of a body that is parsed: measured, then written.
 -- Assumes nothing.
-use mathlib.Core.Path.{◌≡◌, refl, ◌∙◌, ap}
+use mathlib.Core.Path.{◌≡◌, ◌∙◌, ap}
 use mathlib.Core.Bool.{Bool, true, false}
 use mathlib.Core.List.{List}
 use Prim.Native.Nat.{ℕ, ◌+◌, ◌^◌, ◌≤◌, ◌<◌}
 use native.Mathlib.Omega.{arith}
 use native.Mathlib.Nat.{le_refl}
 use lib.ListN.{length}
+use Rattle.std.specs.Prelude.{Ok, Err}
 use Rattle.text.specs.Utf8.{well_formed}
 use Rattle.text.specs.Any.{has_nul}
-use Rattle.text.specs.Put.{Room, Puts}
+use Rattle.text.specs.Put.{RoomAt, PutsAt}
 use Rattle.attribute.specs.declared.DisplayStyle.{DisplayStyle}
 use Rattle.error.specs.declared.Refusal.{Refusal}
 use Rattle.markup.specs.Print.{print_all}
 use Rattle.parse.specs.Body.{StoresBody}
 use Rattle.parse.proofs.LoopLaws.{count_few}
 use Rattle.print.specs.Measure.{Measurable}
-use Rattle.print.specs.Shown.{NodesAt, Printable, Prints}
-use Rattle.latex2mathml.specs.declared.Answer.{Answer}
+use Rattle.print.specs.Shown.{NodesAt}
 use Rattle.latex2mathml.specs.declared.Manner.{Manner}
 use Rattle.latex2mathml.specs.Outcome.{accepted}
 use Rattle.latex2mathml.specs.Translate.{in_math, translate}
 use Rattle.latex2mathml.specs.Replace.{translate_body}
-use Rattle.latex2mathml.specs.Written.{read_nodes, MathLong, Gives}
+use Rattle.latex2mathml.specs.Written.{PrintableAt, PrintsAt, read_nodes, MathLong, Gives}
 use Rattle.latex2mathml.specs.Laid.{RoomFor, LaidThere}
 use Rattle.latex2mathml.proofs.TranslateLaws.{nodes_read, body_translated, body_too_large, body_fits, gives_nothing, gives_markup, math_short}
 use Rattle.latex2mathml.proofs.LayLaws.{laid_puts, laid_beyond, room_sure}
@@ -86,25 +86,25 @@ module _ {s st : List ℕ} {first n hi : ℕ} (manner : Manner) (store : ℕ) (b
       long = measured.long first b.prev b.last b.nodes b.held
 
       -- there is room to write it where the output is long enough
-      room : (o : List ℕ) → m ≤ length o → Room true o 0 (length markup)
+      room : (o : List ℕ) → m ≤ length o → RoomAt o 0 (length markup)
       room o fits =
           let l = long in
           let k = small in
-          record { small = omega arith; inside = λ e. omega arith }
+          record { inside = omega arith }
 
-      pub able_write : (o : List ℕ) → m ≤ length o → Printable (NodesAt s st hi first n) (λ ns. in_math display (print_all manner.dialect s ns)) o 0
+      pub able_write : (o : List ℕ) → m ≤ length o → PrintableAt (NodesAt s st hi first n) (λ ns. in_math display (print_all manner.dialect s ns)) o 0
       able_write o fits = record { what = b.nodes; there = there; room = room o fits }
 
-      pub too_large : {o : List ℕ} → well_formed s ≡ true → has_nul s ≡ false → length o < m → Gives (translate manner s display store (length o)) (Answer.Refused Refusal.OutputTooSmall) o o
+      pub too_large : {o : List ℕ} → well_formed s ≡ true → has_nul s ≡ false → length o < m → Gives (translate manner s display store (length o)) (Err Refusal.OutputTooSmall) o o
       too_large {o} e no_nul lt =
           let l = long in
           gives_nothing o (body_too_large manner s display store (length o) short e no_nul b.is (omega arith))
 
-      pub written : {o o' : List ℕ} {r : ℕ} → well_formed s ≡ true → has_nul s ≡ false → m ≤ length o → Prints (NodesAt s st hi first n) (λ ns. in_math display (print_all manner.dialect s ns)) o o' 0 r
-          → Gives (translate manner s display store (length o)) (Answer.Accepted m) o o'
+      pub written : {o o' : List ℕ} {r : ℕ} → well_formed s ≡ true → has_nul s ≡ false → m ≤ length o → PrintsAt (NodesAt s st hi first n) (λ ns. in_math display (print_all manner.dialect s ns)) o o' 0 r
+          → Gives (translate manner s display store (length o)) (Ok m) o o'
       written {o} {o'} {r} e no_nul fits p =
           let l = long in
-          let q : Puts true o o' 0 markup r = p.all b.nodes there (room o fits) in
+          let q : PutsAt o o' 0 markup r = p.all b.nodes there (room o fits) in
           gives_markup (body_fits manner s display store (length o) short e no_nul b.is (omega arith)) (omega arith) q
 
   -- ---- laid at a place, as a body of a document
@@ -115,18 +115,18 @@ module _ {s st : List ℕ} {first n hi : ℕ} (manner : Manner) (store : ℕ) (b
     is : translate_body manner store display s ≡ accepted text
     is = body_translated manner s display store b.is
 
-    shows : Room true o at (length text) → Printable (NodesAt s st hi first n) (λ ns. in_math display (print_all manner.dialect s ns)) o at
+    shows : RoomAt o at (length text) → PrintableAt (NodesAt s st hi first n) (λ ns. in_math display (print_all manner.dialect s ns)) o at
     shows h = record { what = b.nodes; there = there; room = h }
 
-    pub show_sure : sure ≡ true → Printable (NodesAt s st hi first n) (λ ns. in_math display (print_all manner.dialect s ns)) o at
+    pub show_sure : sure ≡ true → PrintableAt (NodesAt s st hi first n) (λ ns. in_math display (print_all manner.dialect s ns)) o at
     show_sure e = shows (room_sure (room_for text is) e)
 
     pub lay_sure : {o' : List ℕ} {r : ℕ} → sure ≡ true
-        → Prints (NodesAt s st hi first n) (λ ns. in_math display (print_all manner.dialect s ns)) o o' at r → LaidThere (translate_body manner store display s) o o' at r
+        → PrintsAt (NodesAt s st hi first n) (λ ns. in_math display (print_all manner.dialect s ns)) o o' at r → LaidThere (translate_body manner store display s) o o' at r
     lay_sure e p =
         let room = room_sure (room_for text is) e in
         let q = p.all b.nodes there room in
-        let f = room.inside refl in
+        let f = room.inside in
         record { text = text; is = is; place = q.place; laid = laid_puts (omega arith) q }
 
     module _ {m r : ℕ} (measured : MathLong manner.dialect display s st hi m) (place : r ≡ at + m) where
@@ -138,19 +138,19 @@ module _ {s st : List ℕ} {first n hi : ℕ} (manner : Manner) (store : ℕ) (b
           let e = behind in
           record { text = text; is = is; place = e; laid = laid_beyond o text at (omega arith) }
 
-      fitting : r ≤ length o → Room true o at (length text)
+      fitting : r ≤ length o → RoomAt o at (length text)
       fitting h =
           let e = behind in
-          record { small = (room_for text is).small; inside = λ t. omega arith }
+          record { inside = omega arith }
 
-      pub show_fitting : r ≤ length o → Printable (NodesAt s st hi first n) (λ ns. in_math display (print_all manner.dialect s ns)) o at
+      pub show_fitting : r ≤ length o → PrintableAt (NodesAt s st hi first n) (λ ns. in_math display (print_all manner.dialect s ns)) o at
       show_fitting h = shows (fitting h)
 
       pub lay_fitting : {o' : List ℕ} {r' : ℕ} → r ≤ length o
-          → Prints (NodesAt s st hi first n) (λ ns. in_math display (print_all manner.dialect s ns)) o o' at r' → LaidThere (translate_body manner store display s) o o' at r
+          → PrintsAt (NodesAt s st hi first n) (λ ns. in_math display (print_all manner.dialect s ns)) o o' at r' → LaidThere (translate_body manner store display s) o o' at r
       lay_fitting h p =
           let q = p.all b.nodes there (fitting h) in
-          let f = (fitting h).inside refl in
+          let f = (fitting h).inside in
           record { text = text; is = is; place = behind; laid = laid_puts (omega arith) q }
 
     -- the place behind it is a number of the machine

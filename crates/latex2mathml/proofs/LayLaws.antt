@@ -7,12 +7,12 @@ use Prim.Native.Nat.{ℕ, ◌+◌, ◌^◌, ◌≤◌, ◌<◌}
 use native.Mathlib.Omega.{arith}
 use lib.ListN.{length, take, drop, length-append}
 use lib.Seq.{take_at, take-take, length-take-le}
-use Rattle.text.specs.Put.{put, Room, Puts}
-use Rattle.text.proofs.PutLaws.{puts_then, puts_nothing}
-use Rattle.latex2mathml.specs.Laid.{Laid}
+use Rattle.text.specs.Put.{put, RoomAt, PutsAt}
+use Rattle.text.proofs.PutLaws.{puts_at_then, puts_at_nothing}
+use Rattle.latex2mathml.specs.Laid.{Laid, Space}
 
 -- what is put is laid
-pub laid_puts : {o o' m : List ℕ} {at r : ℕ} → at ≤ length o → Puts true o o' at m r → Laid o o' at m
+pub laid_puts : {o o' m : List ℕ} {at r : ℕ} → at ≤ length o → PutsAt o o' at m r → Laid o o' at m
 unfolding put
 laid_puts {o} {o'} {m} {at} inside p =
     (λ fits. p.output, rw (p.output, append_assoc (take at o) m (drop (at + length m) o)) (take_at (take at o) (m ++ drop (at + length m) o) at (length-take-le at o inside)))
@@ -22,11 +22,11 @@ pub laid_beyond : (o m : List ℕ) (at : ℕ) → length o < at + length m → L
 laid_beyond o m at h = (λ fits. absurd (omega arith), refl)
 
 pub laid_nothing : (o : List ℕ) (at : ℕ) → Laid o o at []
-laid_nothing o at = (λ fits. (puts_nothing true o at).output, refl)
+laid_nothing o at = (λ fits. (puts_at_nothing o at).output, refl)
 
 -- there is room to put what is sure to fit
-pub room_sure : {sure : Bool} {o : List ℕ} {at n : ℕ} → Room sure o at n → sure ≡ true → Room true o at n
-room_sure h e = record { small = h.small; inside = λ t. h.inside e }
+pub room_sure : {sure : Bool} {o : List ℕ} {at n : ℕ} → Space sure o at n → sure ≡ true → RoomAt o at n
+room_sure h e = record { inside = h.inside e }
 
 -- what is unchanged before a place is so before an earlier one
 pub front_less : (at place : ℕ) (o o' : List ℕ) → at ≤ place → take place o' ≡ take place o → take at o' ≡ take at o
@@ -37,8 +37,8 @@ pub laid_more : (o₀ o o' : List ℕ) (at place : ℕ) (done bs : List ℕ) →
 laid_more o₀ o o' at place done bs small e p q same = (
   λ fits.
       let total = length-append done bs in
-      let first : Puts true o₀ o at done place = record { place = e; output = p.0 (omega arith) } in
-      let next : Puts true o o' place bs (place + length bs) = record { place = refl; output = q.0 (omega arith) } in
-      (puts_then done bs (record { small = small; inside = λ t. fits }) first next).output,
+      let first : PutsAt o₀ o at done place = record { place = e; output = p.0 (omega arith) } in
+      let next : PutsAt o o' place bs (place + length bs) = record { place = refl; output = q.0 (omega arith) } in
+      (puts_at_then done bs (record { inside = fits }) first next).output,
   front_less at place o o' (omega arith) q.1 ∙ p.1,
 )

@@ -13,13 +13,14 @@ use Rattle.attribute.specs.Names.{display_style}
 use Rattle.markup.specs.declared.Place.{Place}
 use Rattle.markup.specs.Print.{print_all}
 use Rattle.print.specs.declared.measure.Measured.{Measured}
-use Rattle.print.specs.Shown.{shown_all}
+use Rattle.text.specs.declared.put.Output.{Output}
+use Rattle.print.specs.Shown.{shown_all, Printable, Prints}
 use Rattle.print.specs.Measure.{Measures}
 use Rattle.print.proofs.PieceLaws.{Between}
 use Rattle.print.proofs.ShownLaws.{all_plain}
 use Rattle.print.proofs.MeasureLaws.{measured}
 use Rattle.latex2mathml.specs.Translate.{in_math}
-use Rattle.latex2mathml.specs.Written.{opening, MathLong}
+use Rattle.latex2mathml.specs.Written.{opening, PrintableAt, PrintsAt, MathLong}
 
 grouped : (p q r m e : List ℕ) → p ++ q ++ r ++ m ++ e ≡ (p ++ q ++ r) ++ m ++ e
 grouped p q r m e = simp append_assoc
@@ -49,3 +50,16 @@ math_measured {d} {s} {st} {top} {w} {r} display ew m =
           let c = math_long display (print_all d s ns) in
           omega arith;
     }
+
+-- what can be printed at a place can be put into an output that begins there, and what is put into it is printed at the place
+pub output_able : {T : Type 0} {There : T → Type 0} {text : T → List ℕ} {o : List ℕ} {at : ℕ} (p : Output) → p.bytes.now ≡ o → p.at ≡ at
+    → PrintableAt There text o at → Printable There text p
+output_able p bytes place h = record { what = h.what; there = h.there; room = record { inside = rw (bytes, place) h.room.inside } }
+
+pub output_prints : {T : Type 0} {There : T → Type 0} {text : T → List ℕ} {o : List ℕ} {at : ℕ} (p : Output) → p.bytes.now ≡ o → p.at ≡ at
+    → {p' : Output} → Prints There text p p' → PrintsAt There text o p'.bytes.now at p'.at
+output_prints p bytes place h = record {
+  all = λ t there room.
+      let q = h.all t there (record { inside = rw (bytes, place) room.inside }) in
+      rw (← bytes, ← place) q.puts;
+}

@@ -6,23 +6,25 @@ use mathlib.Core.List.{List, [], ◌++◌, append_assoc}
 use Prim.Native.Nat.{ℕ, ◌+◌, ◌-◌, ◌*◌, ◌^◌, ◌≤◌, ◌<◌}
 use native.Mathlib.Omega.{arith}
 use native.Mathlib.Nat.{min-le_left}
+use lib.Dec.{ltb}
 use lib.ListN.{length, drop, length-append, length-take, length-drop}
 use lib.Seq.{take_all}
+use Rattle.std.specs.Prelude.{Ok, Err, Option, Some, None, IsSome}
 use Rattle.text.specs.Text.{part}
 use Rattle.text.proofs.Cases.{never}
-use Rattle.attribute.specs.declared.DisplayStyle.{DisplayStyle}
+use Rattle.dollars.specs.declared.Delimiter.{Delimiter}
 use Rattle.error.specs.declared.Refusal.{Refusal}
-use Rattle.latex2mathml.specs.declared.Answer.{Answer}
 use Rattle.latex2mathml.specs.declared.Manner.{Manner}
 use Rattle.latex2mathml.specs.Outcome.{Outcome, accepted, refused, ◌>>=◌}
-use Rattle.dollars.specs.Dollars.{mark, width}
-use Rattle.dollars.specs.Places.{places, odd, next_place}
+use Rattle.dollars.specs.declared.Delimiter.TheVariants.{Double}
+use Rattle.dollars.specs.Dollars.{three_dollars, mark, width}
+use Rattle.dollars.specs.Places.{places, odd, next_place, Finds}
 use Rattle.latex2mathml.specs.Replace.{translate_body, substitute}
-use Rattle.latex2mathml.specs.Laid.{Laid, Lays, RoomFor, Fits, passed, growth, AtMost}
+use Rattle.latex2mathml.specs.Laid.{Laid, Lays, RoomFor, Fits, display_of, passed, growth, AtMost}
 use Rattle.latex2mathml.proofs.TranslateLaws.{translated_short}
 use Rattle.latex2mathml.proofs.LayLaws.{laid_nothing, laid_more, front_less}
 use Rattle.dollars.proofs.PlaceLaws.{places_none}
-use Rattle.dollars.proofs.DollarLaws.{Pair}
+use Rattle.dollars.proofs.DollarLaws.{Pair, pair_next}
 
 -- ---- what is done and what is to come
 
@@ -54,6 +56,17 @@ length_part a e l = rw (length-take (e - a) (drop a l)) (min-le_left (e - a) (le
 part_all : (a : ℕ) (l : List ℕ) → part a (length l) l ≡ drop a l
 part_all a l = take_all (length l - a) (drop a l) (let n = length-drop a l in omega arith)
 
+-- ---- the marks
+
+-- a second mark stands behind a first one
+pub second_some : (delimiter : Delimiter) (s : List ℕ) → (delimiter ≡ Double → ltb 0 (length (places three_dollars 0 s)) ≡ false) → (w : ℕ) → w ≡ width delimiter → (from a : ℕ)
+    → from ≤ length s → odd (places (mark delimiter) from (drop from s)) ≡ false → a ≡ next_place (mark delimiter) from (drop from s) → a < length s
+    → (found : Option ℕ) → Finds (mark delimiter) s (a + w) found → IsSome found
+second_some delimiter s apart w wide from a inside even first more None none =
+    let p = pair_next delimiter s apart w wide from a (length s) inside even first more (sym none) in
+    absurd (omega (arith, p.last, p.some))
+second_some delimiter s apart w wide from a inside even first more (Some b) h = refl
+
 -- ---- what is laid so far
 
 pub record Sofar (o₀ o : List ℕ) (start at : ℕ) (done : List ℕ) : Type 0 where
@@ -74,24 +87,24 @@ sofar_more o₀ o o' start at at' done bs h e p same small =
 
 -- ---- the pass
 
-module _ (manner : Manner) (store : ℕ) (display : DisplayStyle) (double : Bool) (s : List ℕ) (w : ℕ) where
+module _ (manner : Manner) (store : ℕ) (delimiter : Delimiter) (s : List ℕ) (w : ℕ) where
   abbrev marks : ℕ → List ℕ
-  marks from = places (mark double) from (drop from s)
+  marks from = places (mark delimiter) from (drop from s)
 
   abbrev rest : ℕ → Outcome (List ℕ)
-  rest from = substitute manner store display w s from (marks from)
+  rest from = substitute manner store (display_of delimiter) w s from (marks from)
 
   -- the text up to `from` is done and laid up to the place `at`
   pub record Passing (o₀ o : List ℕ) (start at from : ℕ) : Type 0 where
-    pub wide : w ≡ width double
+    pub wide : w ≡ width delimiter
     pub done : List ℕ
-    pub whole : passed manner store display double s ≡ (rest from >>= (λ l. accepted (done ++ l)))
+    pub whole : passed manner store delimiter s ≡ (rest from >>= (λ l. accepted (done ++ l)))
     pub sofar : Sofar o₀ o start at done
     pub most : at ≤ start + from * growth
     pub inside : from ≤ length s
     pub even : odd (marks from) ≡ false
 
-  pub passing_none : (o : List ℕ) (start : ℕ) → w ≡ width double → odd (places (mark double) 0 s) ≡ false → Passing o o start start 0
+  pub passing_none : (o : List ℕ) (start : ℕ) → w ≡ width delimiter → odd (places (mark delimiter) 0 s) ≡ false → Passing o o start start 0
   passing_none o start wide even = record {
     wide = wide;
     done = [];
@@ -111,9 +124,9 @@ module _ (manner : Manner) (store : ℕ) (display : DisplayStyle) (double : Bool
         let inside = h.inside in
         omega arith
 
-    pub passing_all : (o' : List ℕ) {a r : ℕ} → a ≡ next_place (mark double) from (drop from s) → a ≡ length s → r ≡ at + length (part from (length s) s)
+    pub passing_all : (o' : List ℕ) {a r : ℕ} → a ≡ next_place (mark delimiter) from (drop from s) → a ≡ length s → r ≡ at + length (part from (length s) s)
         → Laid o o' at (part from (length s) s) → length o' ≡ length o
-        → Lays (passed manner store display double s) o₀ o' start (Answer.Accepted r) × AtMost (start + length s * growth) (Answer.Accepted r)
+        → Lays (passed manner store delimiter s) o₀ o' start (Ok r) × AtMost (start + length s * growth) (Ok r)
     unfolding substitute ◌>>=◌
     passing_all o' {a} {r} e end place laid same =
         let most = h.most in
@@ -122,7 +135,7 @@ module _ (manner : Manner) (store : ℕ) (display : DisplayStyle) (double : Bool
         let f = sofar_more o₀ o o' start at r h.done (part from (length s) s) h.sofar place laid same last_small in (
           record {
             text = h.done ++ part from (length s) s;
-            is = h.whole ∙ rw (places_none (mark double) s from a h.inside e end, part_all from s);
+            is = h.whole ∙ rw (places_none (mark delimiter) s from a h.inside e end, part_all from s);
             place = f.place;
             laid = f.laid;
           },
@@ -130,7 +143,7 @@ module _ (manner : Manner) (store : ℕ) (display : DisplayStyle) (double : Bool
         )
 
     -- a piece of prose and a body behind it
-    module _ (a b : ℕ) (p : Pair double s w from a b) where
+    module _ (a b : ℕ) (p : Pair delimiter s w from a b) where
       prose_long : length (part from a s) ≤ a - from
       prose_long = length_part from a s
 
@@ -156,22 +169,22 @@ module _ (manner : Manner) (store : ℕ) (display : DisplayStyle) (double : Bool
             omega arith
 
         -- the whole, with the body translated or refused
-        whole_next : (m : List ℕ) → translate_body manner store display (part (a + w) b s) ≡ accepted m
-            → passed manner store display double s ≡ (rest (b + w) >>= (λ l. accepted (((h.done ++ part from a s) ++ m) ++ l)))
+        whole_next : (m : List ℕ) → translate_body manner store (display_of delimiter) (part (a + w) b s) ≡ accepted m
+            → passed manner store delimiter s ≡ (rest (b + w) >>= (λ l. accepted (((h.done ++ part from a s) ++ m) ++ l)))
         unfolding substitute ◌>>=◌
         whole_next m is = h.whole ∙ rw (p.marks, substitute, is) (more_done (rest (b + w)) h.done (part from a s) m)
 
-        body_most : (m : List ℕ) → translate_body manner store display (part (a + w) b s) ≡ accepted m → at₁ + length m ≤ start + (b + w) * growth
+        body_most : (m : List ℕ) → translate_body manner store (display_of delimiter) (part (a + w) b s) ≡ accepted m → at₁ + length m ≤ start + (b + w) * growth
         body_most m is =
-            let short = translated_short manner (part (a + w) b s) display store m is in
+            let short = translated_short manner (part (a + w) b s) (display_of delimiter) store m is in
             let n = length_part (a + w) b s in
             let most = prose_most in
             let gap = p.gap in
             let some = p.some in
             omega arith
 
-        pub body_room : (sure : Bool) → (sure ≡ true → Fits (passed manner store display double s) o₀ start)
-            → RoomFor (translate_body manner store display (part (a + w) b s)) sure o₁ at₁
+        pub body_room : (sure : Bool) → (sure ≡ true → Fits (passed manner store delimiter s) o₀ start)
+            → RoomFor (translate_body manner store (display_of delimiter) (part (a + w) b s)) sure o₁ at₁
         body_room sure fits m is =
             let most = body_most m is in
             let last = p.last in
@@ -188,8 +201,8 @@ module _ (manner : Manner) (store : ℕ) (display : DisplayStyle) (double : Bool
             }
 
         pub passing_refused : (o₂ : List ℕ) (r : Refusal)
-            → Lays (translate_body manner store display (part (a + w) b s)) o₁ o₂ at₁ (Answer.Refused r)
-            → Lays (passed manner store display double s) o₀ o₂ start (Answer.Refused r) × AtMost (start + length s * growth) (Answer.Refused r)
+            → Lays (translate_body manner store (display_of delimiter) (part (a + w) b s)) o₁ o₂ at₁ (Err r)
+            → Lays (passed manner store delimiter s) o₀ o₂ start (Err r) × AtMost (start + length s * growth) (Err r)
         unfolding substitute ◌>>=◌
         passing_refused o₂ r (is, front) =
             let place₁ = prose.place in (
@@ -201,7 +214,7 @@ module _ (manner : Manner) (store : ℕ) (display : DisplayStyle) (double : Bool
             )
 
         pub passing_more : {o₂ : List ℕ} (r : ℕ) → length o₂ ≡ length o₁
-            → Lays (translate_body manner store display (part (a + w) b s)) o₁ o₂ at₁ (Answer.Accepted r)
+            → Lays (translate_body manner store (display_of delimiter) (part (a + w) b s)) o₁ o₂ at₁ (Ok r)
             → Passing o₀ o₂ start r (b + w)
         passing_more {o₂} r same₂ q =
             let most = body_most q.text q.is in

@@ -1,22 +1,23 @@
 -- Prose comes out as typed, and its text of pass one is the prose.
 -- Assumes nothing.
 use mathlib.Core.Path.{◌≡◌, refl, sym, ◌∙◌}
-use mathlib.Core.Bool.{Bool, true, false, not, and-eq-true_iff}
+use mathlib.Core.Bool.{true, false, not, and-eq-true_iff}
 use mathlib.Core.List.{List, [], ◌∷◌}
 use Prim.Native.Nat.{ℕ, ◌≤◌, ◌<◌}
 use lib.Dec.{eqb, ltb}
 use lib.ListN.{length}
 use borrow.Author.Tests.{lt-ltb, le-ltb, not-true}
+use Rattle.std.specs.Prelude.{Result, Ok, Err}
 use Rattle.text.specs.Any.{any, has_nul, is_ascii}
 use Rattle.text.specs.Plain.{plain}
-use Rattle.text.specs.Put.{Puts}
+use Rattle.text.specs.Put.{PutsAt}
 use Rattle.text.proofs.Cases.{neither}
 use Rattle.text.proofs.AnyLaws.{none_cons}
 use Rattle.text.proofs.AsciiLaws.{ascii_well}
 use Rattle.text.proofs.PutLaws.{puts_all}
-use Rattle.attribute.specs.declared.DisplayStyle.{DisplayStyle}
+use Rattle.dollars.specs.declared.Delimiter.{Delimiter}
+use Rattle.dollars.specs.declared.Delimiter.TheVariants.{Single, Double}
 use Rattle.error.specs.declared.Refusal.{Refusal}
-use Rattle.latex2mathml.specs.declared.Answer.{Answer}
 use Rattle.latex2mathml.specs.declared.Manner.{Manner}
 use Rattle.latex2mathml.specs.Outcome.{accepted, refused, ◌>>=◌, refuse, bytes_of}
 use Rattle.latex2mathml.specs.Replace.{first_pass, second_pass, replacement, replace_outcome, replace}
@@ -43,50 +44,50 @@ module _ (manner : Manner) (d : List ℕ) (store work : ℕ) (prose : is_prose d
   unfolding is_prose
   sides = (and-eq-true_iff (not (any unusual d)) (plain d)).0 prose
 
-  unmarked : (double : Bool) → length d ≡ next_place (mark double) 0 d
-  unmarked double = sym (plain_none double d sides.1)
+  unmarked : (delimiter : Delimiter) → length d ≡ next_place (mark delimiter) 0 d
+  unmarked delimiter = sym (plain_none delimiter d sides.1)
 
   second : second_pass manner store d ≡ accepted d
   second =
-      second_is manner store d (plain_even false d (unmarked false)) ∙ plain_passed manner store DisplayStyle.Inline false d (unmarked false)
+      second_is manner store d (plain_even Single d (unmarked Single)) ∙ plain_passed manner store Single d (unmarked Single)
 
   module _ (short : length d ≤ 32768) where
     checked : Checked d
     checked =
         let h = usual_ascii d (not-true (any unusual d) sides.0) in
-        plain_checked d short (sym (ascii_well d h.0)) h.1 (unmarked true)
+        plain_checked d short (sym (ascii_well d h.0)) h.1 (unmarked Double)
 
     first_large : work < length d → first_pass manner d store work ≡ refused Refusal.WorkTooSmall
-    first_large l = plain_large manner d store work checked (unmarked true) l
+    first_large l = plain_large manner d store work checked (unmarked Double) l
 
     first : length d ≤ work → first_pass manner d store work ≡ accepted d
     unfolding refuse ◌>>=◌
-    first l = first_is manner d store work checked ∙ rw (plain_passed manner store DisplayStyle.Block true d (unmarked true), le-ltb work (length d) l)
+    first l = first_is manner d store work checked ∙ rw (plain_passed manner store Double d (unmarked Double), le-ltb work (length d) l)
 
     pub prose_typed : length d ≤ work → replacement manner d store work ≡ accepted d
     prose_typed l = replacement_is manner d store work d (first l) ∙ second
 
 -- The replacement in prose.
 module _ (manner : Manner) (d : List ℕ) (store : ℕ) (w o : List ℕ) (prose : is_prose d ≡ true) where
-  pub prose_long : 32768 < length d → Replaces manner d store (Answer.Refused Refusal.TooLong) w w o o
+  pub prose_long : 32768 < length d → Replaces manner d store (Err Refusal.TooLong) w w o o
   prose_long l = replace_refused manner d store w o Refusal.TooLong (first_long manner d store (length w) l)
 
   module _ (short : length d ≤ 32768) where
-    pub prose_large : length w < length d → Replaces manner d store (Answer.Refused Refusal.WorkTooSmall) w w o o
+    pub prose_large : length w < length d → Replaces manner d store (Err Refusal.WorkTooSmall) w w o o
     prose_large l = replace_refused manner d store w o Refusal.WorkTooSmall (first_large manner d store (length w) prose short l)
 
-    module _ (fits : length d ≤ length w) {w' : List ℕ} {n : ℕ} (copied : Puts true w w' 0 d n) where
-      replaced : {o' : List ℕ} (r : Answer) → Gives (in_room (length o) (accepted d)) r o o' → Replaces manner d store r w w' o o'
+    module _ (fits : length d ≤ length w) {w' : List ℕ} {n : ℕ} (copied : PutsAt w w' 0 d n) where
+      replaced : {o' : List ℕ} (r : Result ℕ Refusal) → Gives (in_room (length o) (accepted d)) r o o' → Replaces manner d store r w w' o o'
       unfolding replace replace_outcome replacement ◌>>=◌ bytes_of over
       replaced r g = record {
         gives = rw (first manner d store (length w) prose short fits, second manner d store (length w) prose) g;
         work = rw (first manner d store (length w) prose short fits) (puts_all copied);
       }
 
-      pub prose_full : length o < length d → Replaces manner d store (Answer.Refused Refusal.OutputTooSmall) w w' o o
+      pub prose_full : length o < length d → Replaces manner d store (Err Refusal.OutputTooSmall) w w' o o
       unfolding refuse ◌>>=◌
-      prose_full l = replaced (Answer.Refused Refusal.OutputTooSmall) (gives_nothing o (rw (lt-ltb (length o) (length d) l)))
+      prose_full l = replaced (Err Refusal.OutputTooSmall) (gives_nothing o (rw (lt-ltb (length o) (length d) l)))
 
-      pub prose_replaced : length d ≤ length o → {o' : List ℕ} {r : ℕ} → Puts true o o' 0 d r → Replaces manner d store (Answer.Accepted r) w w' o o'
+      pub prose_replaced : length d ≤ length o → {o' : List ℕ} {r : ℕ} → PutsAt o o' 0 d r → Replaces manner d store (Ok r) w w' o o'
       unfolding refuse ◌>>=◌
-      prose_replaced l {o'} {r} p = replaced (Answer.Accepted r) (gives_markup (rw (le-ltb (length o) (length d) l)) p.place p)
+      prose_replaced l {o'} {r} p = replaced (Ok r) (gives_markup (rw (le-ltb (length o) (length d) l)) p.place p)

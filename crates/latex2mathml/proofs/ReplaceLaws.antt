@@ -9,18 +9,19 @@ use lib.Dec.{ltb}
 use lib.ListN.{length, take, drop}
 use lib.Seq.{take_at, length-take-le}
 use borrow.Author.Tests.{ltb-false, lt-ltb, le-ltb, not-false}
+use Rattle.std.specs.Prelude.{Result, Ok, Err, Option, Some, None, is_some}
 use Rattle.text.specs.Utf8.{well_formed}
 use Rattle.text.specs.Any.{has_nul}
-use Rattle.text.specs.Put.{Room, Puts}
+use Rattle.text.specs.Put.{PutsAt}
 use Rattle.text.proofs.Cases.{never}
 use Rattle.text.proofs.PutLaws.{puts_all}
-use Rattle.attribute.specs.declared.DisplayStyle.{DisplayStyle}
+use Rattle.dollars.specs.declared.Delimiter.{Delimiter}
+use Rattle.dollars.specs.declared.Delimiter.TheVariants.{Single, Double}
 use Rattle.error.specs.declared.Refusal.{Refusal}
-use Rattle.latex2mathml.specs.declared.Answer.{Answer}
 use Rattle.latex2mathml.specs.declared.Manner.{Manner}
 use Rattle.latex2mathml.specs.Outcome.{Outcome, accepted, refused, ◌>>=◌, refuse, bytes_of, document_limit}
 use Rattle.dollars.specs.Dollars.{dollar, two_dollars, three_dollars, mark}
-use Rattle.dollars.specs.Places.{places, odd, next_place}
+use Rattle.dollars.specs.Places.{places, odd, next_place, Finds}
 use Rattle.latex2mathml.specs.Replace.{substitute, first_pass, second_pass, replacement, replace_outcome, replace}
 use Rattle.latex2mathml.specs.Written.{over, Gives, Replaces}
 use Rattle.latex2mathml.specs.Laid.{Laid, LaidThere, Lays, Fits, WrittenThere, Begins, in_room, passed, growth, Passable, AtMost}
@@ -31,17 +32,9 @@ use Rattle.dollars.proofs.DollarLaws.{three_none}
 
 -- ---- answers and outcomes
 
-pub at_most : (m n : ℕ) (r : Answer) → m ≤ n → AtMost m r → AtMost n r
-at_most m n (Answer.Accepted k) h l = omega arith
-at_most m n (Answer.Refused r) h l = tt
-
--- what was measured is written
-pub written_there : {want : Outcome (List ℕ)} {o o' : List ℕ} {at r : ℕ} → Fits want o at → LaidThere want o o' at r → WrittenThere want o o' at r
-written_there f q =
-    let same : f.text ≡ q.text = cc in
-    let n = ap length same in
-    let room = f.inside in
-    record { text = q.text; is = q.is; puts = record { place = q.place; output = q.laid.0 (omega arith) } }
+pub at_most : (m n : ℕ) (r : Result ℕ Refusal) → m ≤ n → AtMost m r → AtMost n r
+at_most m n (Ok k) h l = omega arith
+at_most m n (Err r) h l = tt
 
 -- a buffer in which a text was laid begins with it, if it has the room
 pub begins_laid : {want want' : Outcome (List ℕ)} {b b' : List ℕ} {n : ℕ} (q : LaidThere want b b' 0 n) → want' ≡ accepted q.text → length b' ≡ length b → Begins want' b' n
@@ -52,26 +45,9 @@ begins_laid {want} {want'} {b} {b'} {n} q is same =
       is = is;
       long = omega arith;
       front = λ fits.
-          let p : Puts true b b' 0 q.text n = record { place = q.place; output = q.laid.0 (omega arith) } in
+          let p : PutsAt b b' 0 q.text n = record { place = q.place; output = q.laid.0 (omega arith) } in
           rw (puts_all p) (take_at q.text (drop (length q.text) b) n (omega arith));
     }
-
--- Writing the text of a pass that was drafted.
-module _ {want : Outcome (List ℕ)} {b : List ℕ} {n : ℕ} (q : Begins want b n) (fits : n ≤ length b) where
-  pub front_length : n ≡ length (take n b)
-  front_length = sym (length-take-le n b fits)
-
-  pub front_room : {o : List ℕ} → Fits want o 0 → length o < 2 ^ 64 → Room true o 0 (length (take n b))
-  front_room {o} f small =
-      let same : f.text ≡ q.text = let x = f.is in let y = q.is in cc in
-      let z = ap length same in
-      let long = q.long in
-      let e = front_length in
-      let inside = f.inside in
-      record { small = omega arith; inside = λ t. omega arith }
-
-  pub front_written : {o o' : List ℕ} {r : ℕ} → Puts true o o' 0 (take n b) r → WrittenThere want o o' 0 r
-  front_written p = record { text = q.text; is = q.is; puts = rw (q.front fits) at p }
 
 -- ---- pass one
 
@@ -107,22 +83,28 @@ pub record Checked (d : List ℕ) : Type 0 where
   pub even : odd (places two_dollars 0 d) ≡ false
   pub apart : ltb 0 (length (places three_dollars 0 d)) ≡ false
 
--- a text without marks is its own pass
-module _ (double : Bool) (s : List ℕ) (none : length s ≡ next_place (mark double) 0 s) where
-  no_marks : places (mark double) 0 s ≡ []
-  no_marks = places_none (mark double) s 0 (length s) (omega arith) none refl
+-- no first mark was found
+pub no_mark : (test : List ℕ → Bool) (s : List ℕ) (found : Option ℕ) (none : Bool) → Finds test s 0 found → is_some found ≡ not none → none ≡ true
+    → length s ≡ next_place test 0 s
+no_mark test s None none h e f = sym h
+no_mark test s (Some a) none h e f = let z = rw f at e in never cc
 
-  pub plain_even : odd (places (mark double) 0 s) ≡ false
+-- a text without marks is its own pass
+module _ (delimiter : Delimiter) (s : List ℕ) (none : length s ≡ next_place (mark delimiter) 0 s) where
+  no_marks : places (mark delimiter) 0 s ≡ []
+  no_marks = places_none (mark delimiter) s 0 (length s) (omega arith) none refl
+
+  pub plain_even : odd (places (mark delimiter) 0 s) ≡ false
   unfolding odd
   plain_even = rw no_marks
 
-module _ (manner : Manner) (store : ℕ) (display : DisplayStyle) (double : Bool) (s : List ℕ) (none : length s ≡ next_place (mark double) 0 s) where
-  pub plain_passed : passed manner store display double s ≡ accepted s
+module _ (manner : Manner) (store : ℕ) (delimiter : Delimiter) (s : List ℕ) (none : length s ≡ next_place (mark delimiter) 0 s) where
+  pub plain_passed : passed manner store delimiter s ≡ accepted s
   unfolding substitute
-  plain_passed = rw (no_marks double s none, substitute)
+  plain_passed = rw (no_marks delimiter s none, substitute)
 
   -- where it is laid
-  pub plain_laid : (o o' : List ℕ) (at r : ℕ) → r ≡ at + length s → Laid o o' at s → LaidThere (passed manner store display double s) o o' at r
+  pub plain_laid : (o o' : List ℕ) (at r : ℕ) → r ≡ at + length s → Laid o o' at s → LaidThere (passed manner store delimiter s) o o' at r
   plain_laid o o' at r place laid = record { text = s; is = plain_passed; place = place; laid = laid }
 
 -- no windows, and so no three dollars in a row
@@ -131,36 +113,36 @@ plain_checked d short well no_nul none = record {
   short = short;
   well = well;
   no_nul = no_nul;
-  even = plain_even true d none;
+  even = plain_even Double d none;
   apart = rw (three_none d 0 (length d) (omega arith) none (omega arith) (omega arith));
 }
 
 module _ (manner : Manner) (d : List ℕ) (store work : ℕ) where
-  pub first_is : Checked d → first_pass manner d store work ≡ (passed manner store DisplayStyle.Block true d >>= (λ text. refuse (ltb work (length text)) Refusal.WorkTooSmall >>= (λ _. accepted text)))
+  pub first_is : Checked d → first_pass manner d store work ≡ (passed manner store Double d >>= (λ text. refuse (ltb work (length text)) Refusal.WorkTooSmall >>= (λ _. accepted text)))
   unfolding first_pass refuse ◌>>=◌ document_limit
   first_is h = rw (first_pass, le-ltb 32768 (length d) h.short, h.well, h.no_nul, h.even, h.apart)
 
   -- a text too long for the work buffer
-  too_long : (h : Checked d) (text : List ℕ) → passed manner store DisplayStyle.Block true d ≡ accepted text → work < length text → first_pass manner d store work ≡ refused Refusal.WorkTooSmall
+  too_long : (h : Checked d) (text : List ℕ) → passed manner store Double d ≡ accepted text → work < length text → first_pass manner d store work ≡ refused Refusal.WorkTooSmall
   unfolding refuse ◌>>=◌
   too_long h text is l = first_is h ∙ rw (is, lt-ltb work (length text) l)
 
   pub plain_large : Checked d → length d ≡ next_place two_dollars 0 d → work < length d → first_pass manner d store work ≡ refused Refusal.WorkTooSmall
-  plain_large h none l = too_long h d (plain_passed manner store DisplayStyle.Block true d none) l
+  plain_large h none l = too_long h d (plain_passed manner store Double d none) l
 
   module _ (b b' : List ℕ) (h : Checked d) where
-    pub first_refused : (r : Refusal) → Lays (passed manner store DisplayStyle.Block true d) b b' 0 (Answer.Refused r)
-        → Lays (first_pass manner d store work) b b' 0 (Answer.Refused r)
+    pub first_refused : (r : Refusal) → Lays (passed manner store Double d) b b' 0 (Err r)
+        → Lays (first_pass manner d store work) b b' 0 (Err r)
     unfolding ◌>>=◌
     first_refused r (is, front) = (first_is h ∙ rw is, front)
 
-    pub first_large : (n : ℕ) → LaidThere (passed manner store DisplayStyle.Block true d) b b' 0 n → work < n
-        → Lays (first_pass manner d store work) b b' 0 (Answer.Refused Refusal.WorkTooSmall)
+    pub first_large : (n : ℕ) → LaidThere (passed manner store Double d) b b' 0 n → work < n
+        → Lays (first_pass manner d store work) b b' 0 (Err Refusal.WorkTooSmall)
     first_large n q l =
         let e = q.place in
         (too_long h q.text q.is (omega arith), q.laid.1)
 
-    pub first_fits : (n : ℕ) → LaidThere (passed manner store DisplayStyle.Block true d) b b' 0 n → n ≤ work
+    pub first_fits : (n : ℕ) → LaidThere (passed manner store Double d) b b' 0 n → n ≤ work
         → LaidThere (first_pass manner d store work) b b' 0 n
     unfolding refuse ◌>>=◌
     first_fits n q l =
@@ -170,7 +152,7 @@ module _ (manner : Manner) (d : List ℕ) (store work : ℕ) where
   -- what an accepted pass one says of the document
   pub record First (text : List ℕ) : Type 0 where
     pub checked : Checked d
-    pub is : passed manner store DisplayStyle.Block true d ≡ accepted text
+    pub is : passed manner store Double d ≡ accepted text
     pub inside : length text ≤ work
 
   module _ (text : List ℕ) (is : first_pass manner d store work ≡ accepted text) where
@@ -182,7 +164,7 @@ module _ (manner : Manner) (d : List ℕ) (store work : ℕ) where
         let no_nul = not_refused (has_nul d) Refusal.NulByte _ text well.1 in
         let even = not_refused (odd (places two_dollars 0 d)) Refusal.InvalidNumberOfDollarSigns _ text no_nul.1 in
         let apart = not_refused (ltb 0 (length (places three_dollars 0 d))) Refusal.ThreeDollarSigns _ text even.1 in
-        let read = steps (passed manner store DisplayStyle.Block true d) _ text apart.1 in
+        let read = steps (passed manner store Double d) _ text apart.1 in
         let fits = not_refused (ltb work (length read.value)) Refusal.WorkTooSmall _ text read.then in
         let same : read.value ≡ text = let e = fits.1 in cc in
         record {
@@ -197,7 +179,7 @@ module _ (manner : Manner) (d : List ℕ) (store work : ℕ) where
           inside = rw same at (ltb-false work (length read.value) fits.0);
         }
 
-    pub first_passable : (w : List ℕ) → work ≡ length w → Passable manner store DisplayStyle.Block true d true w 0
+    pub first_passable : (w : List ℕ) → work ≡ length w → Passable manner store Double d true w 0
     first_passable w lent =
         let f = first_accepted in
         let short = f.checked.short in
@@ -209,11 +191,6 @@ module _ (manner : Manner) (d : List ℕ) (store work : ℕ) where
           fits = λ e. record { text = text; is = f.is; inside = omega arith };
         }
 
-pub checked_passable : (manner : Manner) (d : List ℕ) (store : ℕ) (w : List ℕ) → Checked d → Passable manner store DisplayStyle.Block true d false w 0
-checked_passable manner d store w h =
-    let short = h.short in
-    record { small = omega arith; even = h.even; apart = λ e. h.apart; fits = λ e. never cc }
-
 -- ---- pass two
 
 module _ (manner : Manner) (store : ℕ) (text : List ℕ) where
@@ -221,28 +198,25 @@ module _ (manner : Manner) (store : ℕ) (text : List ℕ) where
   unfolding second_pass refuse ◌>>=◌
   second_odd e = rw (second_pass, e)
 
-  pub second_is : odd (places dollar 0 text) ≡ false → second_pass manner store text ≡ passed manner store DisplayStyle.Inline false text
+  pub second_is : odd (places dollar 0 text) ≡ false → second_pass manner store text ≡ passed manner store Single text
   unfolding second_pass refuse ◌>>=◌
   second_is e = rw (second_pass, e)
 
-  pub second_able : (o : List ℕ) (at : ℕ) → at + length text * growth < 2 ^ 64 → odd (places dollar 0 text) ≡ false → Passable manner store DisplayStyle.Inline false text false o at
-  second_able o at small e = record { small = small; even = e; apart = λ f. never cc; fits = λ f. never cc }
-
   -- an accepted pass two can be written
   module _ (m : List ℕ) (is : second_pass manner store text ≡ accepted m) where
-    second_steps : (odd (places dollar 0 text) ≡ false) × (passed manner store DisplayStyle.Inline false text ≡ accepted m)
+    second_steps : (odd (places dollar 0 text) ≡ false) × (passed manner store Single text ≡ accepted m)
     unfolding second_pass
     second_steps = not_refused (odd (places dollar 0 text)) Refusal.InvalidNumberOfDollarSigns _ m is
 
-    pub second_passed : passed manner store DisplayStyle.Inline false text ≡ accepted m
+    pub second_passed : passed manner store Single text ≡ accepted m
     second_passed = second_steps.1
 
-    pub second_written : {o o' : List ℕ} {at r : ℕ} → WrittenThere (passed manner store DisplayStyle.Inline false text) o o' at r → Puts true o o' at m r
+    pub second_written : {o o' : List ℕ} {at r : ℕ} → WrittenThere (passed manner store Single text) o o' at r → PutsAt o o' at m r
     second_written q =
         let same : q.text ≡ m = let z = q.is in let y = second_passed in cc in
         rw (← same) q.puts
 
-    pub second_passable : (o : List ℕ) (at : ℕ) → at + length text * growth < 2 ^ 64 → at + length m ≤ length o → Passable manner store DisplayStyle.Inline false text true o at
+    pub second_passable : (o : List ℕ) (at : ℕ) → at + length text * growth < 2 ^ 64 → at + length m ≤ length o → Passable manner store Single text true o at
     second_passable o at small room = record {
       small = small;
       even = second_steps.0;
@@ -250,27 +224,27 @@ module _ (manner : Manner) (store : ℕ) (text : List ℕ) where
       fits = λ f. record { text = m; is = second_passed; inside = room };
     }
 
-pub finish_refused : (want : Outcome (List ℕ)) (r : Refusal) (o : List ℕ) → want ≡ refused r → Gives (in_room (length o) want) (Answer.Refused r) o o
+pub finish_refused : (want : Outcome (List ℕ)) (r : Refusal) (o : List ℕ) → want ≡ refused r → Gives (in_room (length o) want) (Err r) o o
 unfolding ◌>>=◌
 finish_refused want r o is = gives_nothing o (rw is)
 
 module _ (manner : Manner) (store : ℕ) (text : List ℕ) (n : ℕ) (o b b₁ : List ℕ) (a : LaidThere (second_pass manner store text) b b₁ 0 n) where
-  pub too_small : length o < n → Gives (in_room (length o) (second_pass manner store text)) (Answer.Refused Refusal.OutputTooSmall) o o
+  pub too_small : length o < n → Gives (in_room (length o) (second_pass manner store text)) (Err Refusal.OutputTooSmall) o o
   unfolding refuse ◌>>=◌
   too_small l =
       let e = a.place in
       gives_nothing o (rw (a.is, lt-ltb (length o) (length a.text) (omega arith)))
 
-  pub finish_passable : length text * growth < 2 ^ 64 → n ≤ length o → Passable manner store DisplayStyle.Inline false text true o 0
+  pub finish_passable : length text * growth < 2 ^ 64 → n ≤ length o → Passable manner store Single text true o 0
   finish_passable small l =
       let e = a.place in
       second_passable manner store text a.text a.is o 0 (omega arith) (omega arith)
 
-  pub finish_begins : length b₁ ≡ length b → Begins (passed manner store DisplayStyle.Inline false text) b₁ n
+  pub finish_begins : length b₁ ≡ length b → Begins (passed manner store Single text) b₁ n
   finish_begins same = begins_laid a (second_passed manner store text a.text a.is) same
 
-  pub finished : {o' : List ℕ} {r : ℕ} → n ≤ length o → WrittenThere (passed manner store DisplayStyle.Inline false text) o o' 0 r
-      → Gives (in_room (length o) (second_pass manner store text)) (Answer.Accepted n) o o'
+  pub finished : {o' : List ℕ} {r : ℕ} → n ≤ length o → WrittenThere (passed manner store Single text) o o' 0 r
+      → Gives (in_room (length o) (second_pass manner store text)) (Ok n) o o'
   unfolding refuse ◌>>=◌
   finished {o'} {r} l q =
       let e = a.place in
@@ -289,7 +263,7 @@ pub record Drafted (manner : Manner) (d : List ℕ) (store : ℕ) (w w' : List �
   pub most : n ≤ length d * growth
 
 module _ (manner : Manner) (d : List ℕ) (store : ℕ) (w w' : List ℕ) (n : ℕ) where
-  drafted : (text : List ℕ) {r : ℕ} → first_pass manner d store (length w) ≡ accepted text → Puts true w w' 0 text r → n ≡ length text → length w' ≡ length w
+  drafted : (text : List ℕ) {r : ℕ} → first_pass manner d store (length w) ≡ accepted text → PutsAt w w' 0 text r → n ≡ length text → length w' ≡ length w
       → n ≤ length d * growth → Drafted manner d store w w' n
   unfolding over
   drafted text is p long same most =
@@ -315,7 +289,7 @@ module _ (manner : Manner) (d : List ℕ) (store : ℕ) (w w' : List ℕ) (n : �
       drafted q.text q.is (record { place = q.place; output = q.laid.0 (omega arith) }) (omega arith) same most
 
   -- written after it was measured
-  pub drafted_written : (text : List ℕ) {r : ℕ} → first_pass manner d store (length w) ≡ accepted text → WrittenThere (passed manner store DisplayStyle.Block true d) w w' 0 r
+  pub drafted_written : (text : List ℕ) {r : ℕ} → first_pass manner d store (length w) ≡ accepted text → WrittenThere (passed manner store Double d) w w' 0 r
       → n ≡ length text → length w' ≡ length w → n ≤ length d * growth → Drafted manner d store w w' n
   drafted_written text is q long same most =
       let f = (first_accepted manner d store (length w) text is).is in
@@ -337,24 +311,24 @@ module _ (manner : Manner) (d : List ℕ) (store : ℕ) (w w' : List ℕ) (n : �
 -- ---- the replacement
 
 module _ (manner : Manner) (d : List ℕ) (store : ℕ) (w b b₁ : List ℕ) (n : ℕ) (q : LaidThere (first_pass manner d store (length w)) b b₁ 0 n) where
-  pub replace_passable : Passable manner store DisplayStyle.Block true d true w 0
+  pub replace_passable : Passable manner store Double d true w 0
   replace_passable = first_passable manner d store (length w) q.text q.is w refl
 
-  pub replace_begins : length b₁ ≡ length b → Begins (passed manner store DisplayStyle.Block true d) b₁ n
+  pub replace_begins : length b₁ ≡ length b → Begins (passed manner store Double d) b₁ n
   replace_begins same = begins_laid q (first_accepted manner d store (length w) q.text q.is).is same
 
-  pub replace_drafted : (most : n ≤ length d * growth) (w' : List ℕ) {r : ℕ} → length w' ≡ length w → WrittenThere (passed manner store DisplayStyle.Block true d) w w' 0 r
+  pub replace_drafted : (most : n ≤ length d * growth) (w' : List ℕ) {r : ℕ} → length w' ≡ length w → WrittenThere (passed manner store Double d) w w' 0 r
       → Drafted manner d store w w' n
   replace_drafted most w' same first =
       let e = q.place in
       drafted_written manner d store w w' n q.text q.is first (omega arith) same most
 
 module _ (manner : Manner) (d : List ℕ) (store : ℕ) (w o : List ℕ) where
-  pub replace_refused : (r : Refusal) → first_pass manner d store (length w) ≡ refused r → Replaces manner d store (Answer.Refused r) w w o o
+  pub replace_refused : (r : Refusal) → first_pass manner d store (length w) ≡ refused r → Replaces manner d store (Err r) w w o o
   unfolding replace replace_outcome replacement ◌>>=◌ bytes_of over
   replace_refused r is = record { gives = gives_nothing o (rw is); work = rw is }
 
-  pub replace_accepted : {w' o' : List ℕ} {n : ℕ} (r : Answer) → (q : Drafted manner d store w w' n)
+  pub replace_accepted : {w' o' : List ℕ} {n : ℕ} (r : Result ℕ Refusal) → (q : Drafted manner d store w w' n)
       → Gives (in_room (length o) (second_pass manner store (take n w'))) r o o' → Replaces manner d store r w w' o o'
   unfolding replace replace_outcome replacement ◌>>=◌ bytes_of
   replace_accepted r q g = record { gives = rw q.first (rw q.front at g); work = rw q.first q.output }
@@ -371,10 +345,10 @@ replacement_refused manner d store work r is = rw is
 -- the replacement laid at a place
 module _ (manner : Manner) (d : List ℕ) (store : ℕ) (w o o' : List ℕ) (at : ℕ) where
   pub lay_refused : (r : Refusal) → first_pass manner d store (length w) ≡ refused r
-      → Lays (replacement manner d store (length w)) o o at (Answer.Refused r) × AtMost (at + length d * (growth * growth)) (Answer.Refused r)
+      → Lays (replacement manner d store (length w)) o o at (Err r) × AtMost (at + length d * (growth * growth)) (Err r)
   lay_refused r is = ((replacement_refused manner d store (length w) r is, refl), tt)
 
-  pub lay_accepted : (w' : List ℕ) (n : ℕ) (r : Answer) → Drafted manner d store w w' n
+  pub lay_accepted : (w' : List ℕ) (n : ℕ) (r : Result ℕ Refusal) → Drafted manner d store w w' n
       → Lays (second_pass manner store (take n w')) o o' at r → AtMost (at + length (take n w') * growth) r
       → Lays (replacement manner d store (length w)) o o' at r × AtMost (at + length d * (growth * growth)) r
   lay_accepted w' n r q h l =
@@ -399,10 +373,10 @@ module _ (manner : Manner) (d : List ℕ) (store : ℕ) (w o : List ℕ) (at : �
   abbrev passes : Both manner d store (length w) f.text
   passes = both_accepted manner d store (length w) f.text f.is
 
-  pub write_first : Passable manner store DisplayStyle.Block true d true w 0
+  pub write_first : Passable manner store Double d true w 0
   write_first = first_passable manner d store (length w) passes.text passes.first w refl
 
-  module _ (w' : List ℕ) (n : ℕ) (same : length w' ≡ length w) (first : WrittenThere (passed manner store DisplayStyle.Block true d) w w' 0 n) (most : n ≤ 0 + length d * growth) where
+  module _ (w' : List ℕ) (n : ℕ) (same : length w' ≡ length w) (first : WrittenThere (passed manner store Double d) w w' 0 n) (most : n ≤ 0 + length d * growth) where
     written_long : n ≡ length passes.text
     written_long =
         let g = (first_accepted manner d store (length w) passes.text passes.first).is in
@@ -423,12 +397,12 @@ module _ (manner : Manner) (d : List ℕ) (store : ℕ) (w o : List ℕ) (at : �
         let e : write_drafted.text ≡ passes.text = cc in
         rw (write_drafted.front, e) passes.second
 
-    pub write_second : at < 2 ^ 63 → Passable manner store DisplayStyle.Inline false (take n w') true o at
+    pub write_second : at < 2 ^ 63 → Passable manner store Single (take n w') true o at
     write_second small =
         let long = front_long manner d store w w' n write_drafted in
         let short = write_drafted.short in
         second_passable manner store (take n w') f.text second_accepted o at (omega arith) f.inside
 
-    pub write_done : {o' : List ℕ} {r : ℕ} → WrittenThere (passed manner store DisplayStyle.Inline false (take n w')) o o' at r
+    pub write_done : {o' : List ℕ} {r : ℕ} → WrittenThere (passed manner store Single (take n w')) o o' at r
         → WrittenThere (replacement manner d store (length w)) o o' at r
     write_done q = record { text = f.text; is = f.is; puts = second_written manner store (take n w') f.text second_accepted q }

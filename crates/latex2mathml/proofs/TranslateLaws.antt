@@ -9,11 +9,12 @@ use native.Mathlib.Nat.{mul-le-mul}
 use lib.Dec.{ltb}
 use lib.ListN.{length, length-append}
 use borrow.Author.Tests.{ltb-false, lt-ltb, le-ltb}
+use Rattle.std.specs.Prelude.{Ok, Err}
 use Rattle.text.specs.declared.Dialect.{Dialect}
 use Rattle.text.specs.Utf8.{well_formed}
 use Rattle.text.specs.Any.{has_nul}
 use Rattle.text.specs.Text.{bytes}
-use Rattle.text.specs.Put.{Puts}
+use Rattle.text.specs.Put.{PutsAt}
 use Rattle.text.specs.Xml.{forbidden}
 use Rattle.text.specs.Examples.{text_opens}
 use Rattle.text.proofs.Cases.{never, by_test}
@@ -28,7 +29,6 @@ use Rattle.parser.specs.declared.Parser.{Parser}
 use Rattle.parser.specs.Parse.{Parsed, parse}
 use Rattle.parser.proofs.BodyLaws.{parse_kept}
 use Rattle.parse.specs.Body.{parse_body, StoresBody}
-use Rattle.latex2mathml.specs.declared.Answer.{Answer}
 use Rattle.latex2mathml.specs.declared.Manner.{Manner}
 use Rattle.latex2mathml.specs.Manner.{is_strict}
 use Rattle.latex2mathml.specs.Outcome.{Outcome, accepted, refused, ◌>>=◌, refuse, body_limit, depth_limit, record_size, number_of, bytes_of}
@@ -165,12 +165,12 @@ module _ (manner : Manner) (s : List ℕ) (display : DisplayStyle) (store : ℕ)
   body_translated f = document_is ∙ rw f
 
 -- a refusal leaves the output as it was
-pub gives_nothing : {want : Outcome (List ℕ)} {r : Refusal} (o : List ℕ) → want ≡ refused r → Gives want (Answer.Refused r) o o
+pub gives_nothing : {want : Outcome (List ℕ)} {r : Refusal} (o : List ℕ) → want ≡ refused r → Gives want (Err r) o o
 unfolding answer_number answer_length number_of over bytes_of
 gives_nothing o e = rw e (record { number = refl; size = refl; output = refl })
 
 -- what is accepted stands at the front of the output
-pub gives_markup : {want : Outcome (List ℕ)} {m o o' : List ℕ} {n r : ℕ} → want ≡ accepted m → n ≡ 0 + length m → Puts true o o' 0 m r → Gives want (Answer.Accepted n) o o'
+pub gives_markup : {want : Outcome (List ℕ)} {m o o' : List ℕ} {n r : ℕ} → want ≡ accepted m → n ≡ 0 + length m → PutsAt o o' 0 m r → Gives want (Ok n) o o'
 unfolding answer_number answer_length number_of over bytes_of
 gives_markup {want} {m} {o} {o'} {n} e long p =
     let l : n ≡ length m = omega arith in

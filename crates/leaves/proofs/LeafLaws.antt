@@ -1,11 +1,15 @@
 -- Leaves as they are printed at a place.
 -- Assumes nothing.
 use mathlib.Core.Path.{◌≡◌, refl, ap, ◌∙◌}
-use mathlib.Core.List.{List, [], ◌∷◌}
+use mathlib.Core.List.{List, [], ◌∷◌, ◌++◌}
 use Prim.Native.Nat.{ℕ}
 use types.Run.{OneOf, miss}
 use denote.Enum.Declared.{tag_of}
+use lib.ListN.{length}
+use Rattle.text.specs.Put.{Room, Puts}
+use Rattle.text.specs.declared.put.Output.{Output}
 use Rattle.text.specs.declared.Dialect.{Dialect}
+use Rattle.text.proofs.PutLaws.{room_1, room_2, room_3, puts_3}
 use Rattle.ast.specs.declared.Leaf.{Leaf}
 use Rattle.ast.specs.Tree.{leaf}
 use Rattle.markup.specs.declared.Place.{Place}
@@ -39,3 +43,27 @@ unfolding at_place slash cell
 no_cell d Place.Plain l m h s = refl
 no_cell d Place.Slashed l m h s = s
 no_cell d Place.Cell l m h s = absurd (miss uncelled 2 tt h)
+
+-- five pieces, one behind the other
+module _ {o : Output} (a b c d e : List ℕ) (room : Room o (length (a ++ b ++ (c ++ d ++ e)))) where
+  pub five_1 : Room o (length a)
+  five_1 = room_1 a b (c ++ d ++ e) room
+
+  pub five_2 : {o₁ : Output} → Puts o o₁ a → Room o₁ (length b)
+  five_2 p = room_2 a b (c ++ d ++ e) room p
+
+  others : {o₁ o₂ : Output} → Puts o o₁ a → Puts o₁ o₂ b → Room o₂ (length (c ++ d ++ e))
+  others p q = room_3 a b (c ++ d ++ e) room p q
+
+  pub five_3 : {o₁ o₂ : Output} → Puts o o₁ a → Puts o₁ o₂ b → Room o₂ (length c)
+  five_3 p q = room_1 c d e (others p q)
+
+  pub five_4 : {o₁ o₂ o₃ : Output} → Puts o o₁ a → Puts o₁ o₂ b → Puts o₂ o₃ c → Room o₃ (length d)
+  five_4 p q r = room_2 c d e (others p q) r
+
+  pub five_5 : {o₁ o₂ o₃ o₄ : Output} → Puts o o₁ a → Puts o₁ o₂ b → Puts o₂ o₃ c → Puts o₃ o₄ d → Room o₄ (length e)
+  five_5 p q r s = room_3 c d e (others p q) r s
+
+  pub puts_5 : {o₁ o₂ o₃ o₄ o₅ : Output} → Puts o o₁ a → Puts o₁ o₂ b → Puts o₂ o₃ c → Puts o₃ o₄ d → Puts o₄ o₅ e
+      → Puts o o₅ (a ++ b ++ (c ++ d ++ e))
+  puts_5 p q r s t = puts_3 a b (c ++ d ++ e) room p q (puts_3 c d e (others p q) r s t)

@@ -3,17 +3,16 @@
 use mathlib.Core.Path.{◌≡◌, refl, sym, ap, ◌∙◌}
 use mathlib.Core.Bool.{Bool, true, false}
 use mathlib.Core.List.{List}
-use Prim.Native.Nat.{ℕ, ◌+◌, ◌-◌, ◌≤◌}
+use Prim.Native.Nat.{ℕ, ◌+◌, ◌-◌, ◌≤◌, ◌<◌}
 use native.Mathlib.Omega.{arith}
 use lib.Dec.{eqb, ltb}
-use borrow.Author.Tests.{le-ltb}
+use borrow.Author.Tests.{lt-ltb, le-ltb}
 use lib.ListN.{length, get_or, length-append, length-take, length-drop, get_or-eq_default}
 use Rattle.text.specs.Text.{bytes}
 use Rattle.text.specs.declared.Dialect.{Dialect}
 use Rattle.text.specs.Xml.{in_text}
-use Rattle.text.specs.Put.{Room}
 use Rattle.text.specs.Examples.{text_opens}
-use Rattle.text.proofs.Cases.{never, by_order}
+use Rattle.text.proofs.Cases.{by_order}
 use Rattle.text.proofs.Tabled.{tab, each}
 use Rattle.attribute.specs.declared.Variant.{Variant}
 use Rattle.attribute.specs.declared.Accent.{Accent}
@@ -37,7 +36,7 @@ use Rattle.markup.specs.Print.{fixed_text, width_text, letter_text, character, o
 use Rattle.markup.specs.Fronts.{accent_text, style_front, front_one, back_one, front_two, back_two}
 use Rattle.markup.specs.Own.{under, own_text, own_errors}
 use Rattle.markup.proofs.PrintLaws.{italic_letter, other_letter, error_ampersand, error_new_line, undefined_pieces}
-use Rattle.markup.proofs.ShortLaws.{width_short, debug_short, letters_short}
+use Rattle.markup.proofs.ShortLaws.{width_short}
 
 pub width_small : (w : ℕ) → length (bytes (width_of w)) ≤ 11
 unfolding width_text
@@ -74,13 +73,7 @@ pub operator_other : (d : Dialect) (c : ℕ) → eqb c 8706 ≡ false → length
 unfolding text_opens at_place operator_markup
 operator_other d c e = rw (operator_markup, e) (simp length-append (omega arith))
 
--- ---- letters that are read again, and an error text: counted by putting them nowhere
-pub letters_room : (d : Dialect) {o : List ℕ} (s : List ℕ) (a e : ℕ) → length s ≤ 4096 → Room false o 0 (length (letter_text d s a e))
-letters_room d s a e short = record { small = omega (arith, letters_short d s a e); inside = λ w. never cc }
-
-pub debug_room : (d : Dialect) {o : List ℕ} (s : List ℕ) (u : Undefined) → length s ≤ 4096 → Room false o 43 (length (in_text d (escape (debug s u))))
-debug_room d s u short = record { small = omega (arith, debug_short d s u); inside = λ w. never cc }
-
+-- ---- an error text
 pub undefined_long : (d : Dialect) (s : List ℕ) (u : Undefined) → length (undefined_markup d s u) ≡ 43 + length (in_text d (escape (debug s u)))
 unfolding text_opens undefined_markup
 undefined_long d s u = rw (undefined_pieces d (escape (debug s u))) (simp length-append (omega arith))
@@ -191,9 +184,18 @@ errors_tab : (v x y : ℕ) → tab (λ i. own_errors (get_or shapes i matrix_sha
 unfolding shapes error_tag
 errors_tab v x y = refl
 
-pub errors_tagged : (f : Fields) {n : ℕ} → n ≡ elim (ltb f.tag 11) [ true ↦ 0 | false ↦ elim (ltb f.tag 20) [ true ↦ 1 | false ↦ 0 ] ] → n ≡ own_errors (shape_of f)
+errors_tagged : (f : Fields) {n : ℕ} → n ≡ elim (ltb f.tag 11) [ true ↦ 0 | false ↦ elim (ltb f.tag 20) [ true ↦ 1 | false ↦ 0 ] ] → n ≡ own_errors (shape_of f)
 unfolding shape_of shapes error_tag
 errors_tagged f {n} h =
     by_order f.tag 36
     (λ lt. h ∙ sym (each (λ i. own_errors (get_or shapes i matrix_shape f.attr f.x f.y)) (λ i. error_tag i) 36 (errors_tab f.attr f.x f.y) f.tag lt))
     (λ ge. h ∙ rw (le-ltb f.tag 11 (omega arith), le-ltb f.tag 20 (omega arith)) (sym (ap (λ g. own_errors (g f.attr f.x f.y)) (get_or-eq_default shapes matrix_shape ge))))
+
+pub errors_below : (f : Fields) → f.tag < 11 → 0 ≡ own_errors (shape_of f)
+errors_below f lt = errors_tagged f (rw (lt-ltb f.tag 11 lt) refl)
+
+pub errors_one : (f : Fields) → 11 ≤ f.tag → f.tag < 20 → 1 ≡ own_errors (shape_of f)
+errors_one f le lt = errors_tagged f (rw (le-ltb f.tag 11 le, lt-ltb f.tag 20 lt) refl)
+
+pub errors_above : (f : Fields) → 20 ≤ f.tag → 0 ≡ own_errors (shape_of f)
+errors_above f le = errors_tagged f (rw (le-ltb f.tag 11 (omega arith), le-ltb f.tag 20 le) refl)

@@ -1,9 +1,9 @@
 -- The letters at the head of a text: each takes a byte or more, and they are put one by one.
 -- Assumes nothing.
 use mathlib.Core.Path.{◌≡◌, refl, sym, ◌∙◌, ap}
-use mathlib.Core.Bool.{Bool}
 use mathlib.Core.List.{List, [], ◌∷◌, ◌++◌}
 use mathlib.Core.Option.{Option, none, some}
+use Rattle.std.specs.Prelude.{Some, None}
 use Prim.Native.Nat.{ℕ, zero, suc, ◌+◌, ◌-◌, ◌≤◌, ◌<◌, zero-le}
 use native.Mathlib.Omega.{arith}
 use types.Run.{OneOf, miss}
@@ -13,11 +13,9 @@ use lib.ListN.{length, take, drop, length-drop}
 use lib.Seq.{take_all, drop-drop}
 use Rattle.text.specs.Utf8.{code_point, encode}
 use Rattle.text.specs.declared.Dialect.{Dialect}
-use Rattle.text.specs.Put.{Room, Puts}
 use Rattle.text.specs.Xml.{xml_text, in_text}
 use Rattle.text.proofs.Cases.{by_test, never}
 use Rattle.text.proofs.Utf8Laws.{width_some}
-use Rattle.text.proofs.PutLaws.{Putting, putting_none, putting_room, putting_more, putting_all}
 use Rattle.text.proofs.XmlLaws.{text_append, same_text}
 use Rattle.attribute.specs.declared.Variant.{Variant}
 use Rattle.token.specs.declared.Token.{Token}
@@ -25,6 +23,8 @@ use Rattle.token.specs.declared.Token.TheVariants.{EOF, Begin, End, Ampersand, N
 use Rattle.token.specs.Roles.{letter_of}
 use Rattle.token.specs.contracts.Token.{the_type}
 use Rattle.lexer.specs.declared.Lexeme.{Lexeme}
+use Rattle.lexer.specs.declared.letters.Letter as letter
+use Rattle.lexer.specs.LetterAt.{LetterAt}
 use Rattle.lexer.specs.Lex.{is_digit, skip_whitespace, read_command, number_at, punctuation, of_character, assigns, token_at, next_token}
 use Rattle.lexer.specs.Letters.{letters_within, letters, encode_all}
 use Rattle.lexer.proofs.NextLaws.{next_spans}
@@ -94,7 +94,7 @@ next_some l c e =
     omega arith
 
 -- the letters end where the next token is none, and go on behind one that is
-within_none : (k : ℕ) (l : List ℕ) → letter_of (next_token 0 l).token ≡ none → letters_within k l ≡ []
+pub within_none : (k : ℕ) (l : List ℕ) → letter_of (next_token 0 l).token ≡ none → letters_within k l ≡ []
 unfolding letters_within
 within_none zero l e = refl
 within_none (suc k) l e = rw (letters_within, e)
@@ -107,11 +107,6 @@ within_some k l c e = rw (letters_within, e)
 -- what the lexer reads of the part of t from i on is the next token there
 read_here : (t : List ℕ) (i : ℕ) (x : Lexeme) → x ≡ next_token 0 (take (length t - i) (drop i t)) → x ≡ next_token 0 (drop i t)
 read_here t i x is = is ∙ ap (next_token 0) (take_all (length t - i) (drop i t) (omega (arith, length-drop i t)))
-
--- the letters from i on end where the next token is none
-pub letters_end : (budget : ℕ) (t : List ℕ) (i : ℕ) (x : Lexeme) → x ≡ next_token 0 (take (length t - i) (drop i t)) → letter_of x.token ≡ none
-    → letters_within budget (drop i t) ≡ []
-letters_end budget t i x is e = within_none budget (drop i t) (rw (read_here t i x is) at e)
 
 -- where it is a letter, it takes a byte or more, and the letters go on behind it
 module _ (t : List ℕ) (i : ℕ) (i-inside : i ≤ length t) (x : Lexeme) (is : x ≡ next_token 0 (take (length t - i) (drop i t))) (c : ℕ) (v : Variant) (e : x.token ≡ Letter c v) where
@@ -129,50 +124,46 @@ module _ (t : List ℕ) (i : ℕ) (i-inside : i ≤ length t) (x : Lexeme) (is :
       let long = length-drop i t in
       (omega arith, omega arith)
 
-  pub letters_on : (budget : ℕ) → length t ≤ i + budget → letters_within budget (drop i t) ≡ c ∷ letters_within (budget - 1) (drop (i + x.end) t)
-  letters_on budget enough =
-      let inside = letter_inside in
-      let more : budget ≡ suc (budget - 1) = omega arith in
-      ap (λ k. letters_within k (drop i t)) more ∙ rw (within_some (budget - 1) (drop i t) c some_letter, ← here, drop-drop x.end i t)
+  -- the letter is at the place i
+  pub letter_here : LetterAt t i (Some (record { code = c; end = i + x.end }))
+  letter_here = (some_letter, ap (λ y. i + y.end) here, letter_inside.0, letter_inside.1)
 
--- on the way: the letters before the place i are put, and of those behind it the budget is enough
-pub record Reading (d : Dialect) (write : Bool) (o₀ o : List ℕ) (at place : ℕ) (t : List ℕ) (i : ℕ) : Type 0 where
-  pub budget : ℕ
+-- no other token is one
+pub letter_none : (t : List ℕ) (i : ℕ) (x : Lexeme) → x ≡ next_token 0 (take (length t - i) (drop i t)) → OneOf others (tag_of the_type x.token) → LetterAt t i None
+letter_none t i x is other = ap (λ y. letter_of y.token) (sym (read_here t i x is)) ∙ no_letter x.token other
+
+-- the letters go on behind one that is at the place i
+pub letters_on : (budget : ℕ) (t : List ℕ) (i : ℕ) (l : letter.Letter) → LetterAt t i (Some l) → length t ≤ i + budget
+    → letters_within budget (drop i t) ≡ l.code ∷ letters_within (budget - 1) (drop l.end t)
+letters_on budget t i l at enough =
+    let more : budget ≡ suc (budget - 1) = omega (arith, at.2, at.3) in
+    ap (λ k. letters_within k (drop i t)) more
+    ∙ rw (within_some (budget - 1) (drop i t) l.code at.0, drop-drop (next_token 0 (drop i t)).end i t, ← at.1)
+
+-- on the way: the letters before the place i are read, and of those behind it the budget is enough
+pub record Reading (t : List ℕ) (i budget : ℕ) : Type 0 where
   pub enough : length t ≤ i + budget
   pub inside : i ≤ length t
-  pub putting : Putting write o₀ o at place (in_text d (encode_all (letters t))) (in_text d (encode_all (letters_within budget (drop i t))))
 
-pub reading_none : (d : Dialect) (write : Bool) (o : List ℕ) (at : ℕ) (t : List ℕ) → Reading d write o o at at t 0
+pub reading_none : (t : List ℕ) → Reading t 0 (length t)
+reading_none t = record { enough = omega arith; inside = zero-le }
+
+pub reading_more : {t : List ℕ} {i budget : ℕ} → Reading t i budget → (l : letter.Letter) → LetterAt t i (Some l) → Reading t l.end (budget - 1)
+reading_more r l at = record { enough = omega (arith, r.enough, at.2); inside = at.3 }
+
+-- what the letters print from the place i on
+abbrev pub left : Dialect → List ℕ → ℕ → ℕ → List ℕ
+left d t i budget = in_text d (encode_all (letters_within budget (drop i t)))
+
+pub left_all : (d : Dialect) (t : List ℕ) → in_text d (encode_all (letters t)) ≡ left d t 0 (length t)
 unfolding letters
-reading_none d write o at t = record {
-  budget = length t;
-  enough = omega arith;
-  inside = zero-le;
-  putting = putting_none write o at (in_text d (encode_all (letters t)));
-}
+left_all d t = refl
 
--- where the next token is no letter, all letters are put
-pub reading_all : {d : Dialect} {write : Bool} {o₀ o : List ℕ} {at place : ℕ} {t : List ℕ} {i : ℕ} → Reading d write o₀ o at place t i
-    → (x : Lexeme) → x ≡ next_token 0 (take (length t - i) (drop i t)) → letter_of x.token ≡ none → Puts write o₀ o at (in_text d (encode_all (letters t))) place
+pub left_none : (d : Dialect) (t : List ℕ) (i budget : ℕ) → LetterAt t i None → left d t i budget ≡ []
 unfolding encode_all xml_text
-reading_all {d} {t = t} {i} r x is e = putting_all (rw (letters_end r.budget t i x is e, encode_all, same_text d [] refl) at r.putting)
+left_none d t i budget at = rw (within_none budget (drop i t) at, encode_all) (same_text d [] refl)
 
--- where it is a letter, there is room for its character, and behind it the next is read
-module _ {d : Dialect} {write : Bool} {o₀ o : List ℕ} {at place : ℕ} {t : List ℕ} {i : ℕ} (room : Room write o₀ at (length (in_text d (encode_all (letters t))))) (r : Reading d write o₀ o at place t i) (x : Lexeme) (is : x ≡ next_token 0 (take (length t - i) (drop i t))) (c : ℕ) (v : Variant) (e : x.token ≡ Letter c v) where
-  split : in_text d (encode_all (letters_within r.budget (drop i t))) ≡ in_text d (encode c) ++ in_text d (encode_all (letters_within (r.budget - 1) (drop (i + x.end) t)))
-  unfolding encode_all
-  split = rw (letters_on t i r.inside x is c v e r.budget r.enough, encode_all) (text_append d (encode c) _)
-
-  pub reading_room : Room write o place (length (in_text d (encode c)))
-  reading_room = putting_room (in_text d (encode c)) _ room (rw split at r.putting)
-
-  pub reading_more : {o' : List ℕ} {place' : ℕ} → Puts write o o' place (in_text d (encode c)) place' → Reading d write o₀ o' at place' t (i + x.end)
-  reading_more p =
-      let byte = letter_inside t i r.inside x is c v e in
-      let enough = r.enough in
-      record {
-        budget = r.budget - 1;
-        enough = omega arith;
-        inside = byte.1;
-        putting = putting_more (in_text d (encode c)) _ room (rw split at r.putting) p;
-      }
+pub left_more : (d : Dialect) {t : List ℕ} {i budget : ℕ} → Reading t i budget → (l : letter.Letter) → LetterAt t i (Some l)
+    → left d t i budget ≡ in_text d (encode l.code) ++ left d t l.end (budget - 1)
+unfolding encode_all
+left_more d {t} {i} {budget} r l at = rw (letters_on budget t i l at r.enough, encode_all) (text_append d (encode l.code) _)

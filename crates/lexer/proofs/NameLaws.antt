@@ -1,13 +1,15 @@
 -- The name of a command, and an assignment, by the bytes at a place.
 -- Assumes nothing.
 use mathlib.Core.Path.{◌≡◌, refl, sym, ◌∙◌}
-use mathlib.Core.Bool.{Bool, true, false, ◌&&◌}
+use mathlib.Core.Bool.{Bool, true, false}
 use mathlib.Core.List.{List, [], ◌∷◌}
 use Prim.Native.Nat.{ℕ, suc, ◌+◌, ◌-◌, ◌≤◌, ◌<◌}
 use native.Mathlib.Omega.{arith}
-use native.Mathlib.Numerals.{add-one}
 use lib.Dec.{eqb, ltb}
-use lib.ListN.{length, get_or, drop, length-drop, drop_of_length-le}
+use lib.Pointwise.{pointwise}
+use Rattle.std.proofs.Math.Bool.{and-true}
+use Rattle.std.proofs.lemmas.Bool.Decides.{nat_tests}
+use lib.ListN.{length, get_or, take, drop, length-drop, drop_of_length-le}
 use lib.Seq.{drop-cons}
 use borrow.Author.Tests.{le-leb, lt-leb, ltb-true, ltb-false}
 use Rattle.text.specs.Utf8.{code_point}
@@ -61,10 +63,6 @@ short (b ∷ d ∷ l) h = absurd (omega arith)
 pub assigns_short : (s : List ℕ) (at : ℕ) → length s - at < 2 → assigns (drop at s) ≡ false
 assigns_short s at h = short (drop at s) (simp length-drop h)
 
-pub assigns_two : (s : List ℕ) (at : ℕ) → at + 2 ≤ length s → assigns (drop at s) ≡ (eqb (get_or s at 0) 58 && eqb (get_or s (at + 1) 0) 61)
-unfolding assigns
-assigns_two s at h = rw (drop-cons s at 0 (omega arith), ← add-one at, drop-cons s (at + 1) 0 (omega arith))
-
 -- what assigns has two bytes
 pub assigns_inside : (s : List ℕ) (at : ℕ) → at ≤ length s → assigns (drop at s) ≡ true → at + 2 ≤ length s
 assigns_inside s at inside e =
@@ -73,3 +71,13 @@ assigns_inside s at inside e =
     let z : ◌≡◌ {A = Bool} false true = sym (assigns_short s at (ltb-true _ _ k)) ∙ e in
     never (cc))
     (λ k. omega (arith, ltb-false (length s - at) 2 k))
+
+flipped : (a b : ℕ) → eqb a b ≡ eqb b a
+flipped a b = grind (arith, nat_tests)
+
+-- .. and is the test whether a text starts with the two
+pub assigns_starts : (l : List ℕ) → pointwise eqb (58 ∷ 61 ∷ []) (take 2 l) ≡ assigns l
+unfolding assigns
+assigns_starts [] = refl
+assigns_starts (b ∷ []) = by_test (eqb 58 b) (λ e. rw e) (λ e. rw e)
+assigns_starts (b ∷ d ∷ l) = rw (flipped 58 b, flipped 61 d, and-true)

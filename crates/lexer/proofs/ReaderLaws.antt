@@ -1,13 +1,13 @@
 -- What the proofs by hand over `Lexer` share: the struct's type with its laws, and what `next_token` asks of its callers and tells them.
 -- Assumes nothing.
 use mathlib.Core.Path.{◌≡◌}
-use Prim.Native.Nat.{ℕ, ◌≤◌}
-use mathlib.Core.List.{List, [], ◌∷◌}
+use Prim.Native.Nat.{◌≤◌}
+use mathlib.Core.List.{[], ◌∷◌}
 use lib.Dec.{T as Holds}
 use lib.ListN.{length, drop}
 use seplogic.Ra.Ura.{Ura}
 use mir.Syntax.{named}
-use mir.Val.{Val, WT, has_ty, vptr}
+use mir.Val.{WT, has_ty}
 use base.Logic.{SProp, ent, sep, snd∗, ex_e}
 use base.Fml.{Lft, Share, Fml, ftrue, flft}
 use prog.Memory.{Memory}
@@ -18,8 +18,6 @@ use contract.Monad.{Fun, fact}
 use types.Kit.{‵, ◌⊛◌, ◌$◌, ◌∵◌, !, qed, join, done}
 use denote.RattleType.{RattleType, owns}
 use denote.Laws.{Is}
-use denote.Builtin.{u32, Array}
-use denote.Ref.{Bor, ShrRef}
 use denote.Signature.{named_lft}
 use denote.Struct.Declared.{Declared}
 use denote.Struct.Laws as LL
@@ -28,7 +26,6 @@ use denote.Triple.Entry.{on_entry}
 use denote.Triple.Spec.{triple_of}
 use denote.Triple.Walked.{says}
 use denote.Triple.Clauses.{ensured, lasts}
-use Rattle.token.specs.Key.{rows}
 use Rattle.lexer.specs.Lex.{next_token}
 use Rattle.lexer.specs.declared.Lexeme.{Lexeme}
 use Rattle.lexer.specs.declared.reader.Lexer.{Lexer}
@@ -50,19 +47,9 @@ Row κs = T.the_row (named_lft 1 0 tt κs)
 abbrev pub Own : Lft → Lexer → Fml
 Own κ d = (Row (κ, tt)).own_val d (T'.lowered d ∷ [])
 
--- the table's type at a lifetime, its machine value, and what it owns
-abbrev pub TableT : Lft → RattleType
-TableT κ = ShrRef (named 1) κ (Array u32 tt 1409)
-
-abbrev pub place : Bor (List ℕ) → Val
-place t = vptr t.ref_ptr.0 t.ref_ptr.1
-
-abbrev pub OwnT : Lft → Bor (List ℕ) → Fml
-OwnT κ t = (TableT κ).own_val t (place t ∷ [])
-
 -- what `next_token` asks, and what it says of the token r that it finds
-abbrev pub Asks : Lexer → Bor (List ℕ) → Type 0
-Asks d t = (d.at ≤ length d.input.now) × (t.now ≡ rows)
+abbrev pub Asks : Lexer → Type 0
+Asks d = d.at ≤ length d.input.now
 
 abbrev pub Found : Lexer → Lexeme → Type 0
 Found d r = (r ≡ next_token d.at (drop d.at d.input.now)) × (r.end ≤ length d.input.now)
@@ -81,13 +68,13 @@ module _ {M : Type 1} {𝓤 : Ura M} (𝓛 : Logic 𝓤) (mem : Memory → SProp
   abbrev pub Next : Contract 𝓤
   Next = triple_of 𝓛 next.signature (next.spec 𝓛 mem run)
 
-  abbrev pub to : Lft → Lft → Share → Share → Lexer → Bor (List ℕ) → Next.Ghost
-  to κ κ' q q' d t = (((κ, (κ', tt)), (q, (q', tt)), tt, (d, (t, tt)), (T'.lowered d ∷ [], (place t ∷ [], tt))), tt)
+  abbrev pub to : Lft → Share → Lexer → Next.Ghost
+  to κ q d = (((κ, tt), (q, tt), tt, (d, tt), (T'.lowered d ∷ [], tt)), tt)
 
-  pub asked : (κ κ' : Lft) (q q' : Share) (d : Lexer) (t : Bor (List ℕ)) → Asks d t
-      → ent 𝓤 (on_entry 𝓛 next.signature (κ, (κ', tt)) (q, (q', tt)) (d, (t, tt)) (T'.lowered d ∷ [], (place t ∷ [], tt))) (Next.pre (to κ κ' q q' d t))
-  asked κ κ' q q' d t ok = qed 𝓛 ((‵ (flft κ q) ⊛ ‵ (flft κ' q') ⊛ ‵ ftrue) ∷ ‵ (owns (Row (κ, tt) ∷ TableT κ' ∷ []) (d, (t, tt)) (T'.lowered d ∷ [], (place t ∷ [], tt))) ∷ []) ∵ says ! ok $ join ! $ done !
+  pub asked : (κ : Lft) (q : Share) (d : Lexer) → Asks d
+      → ent 𝓤 (on_entry 𝓛 next.signature (κ, tt) (q, tt) (d, tt) (T'.lowered d ∷ [], tt)) (Next.pre (to κ q d))
+  asked κ q d ok = qed 𝓛 ((‵ (flft κ q) ⊛ ‵ ftrue) ∷ ‵ (owns (Row (κ, tt) ∷ []) (d, tt) (T'.lowered d ∷ [], tt)) ∷ []) ∵ says ! ok $ join ! $ done !
 
   -- of its `ensured`, the clause alone: it has no `&mut`, so what is said of last values is dropped
-  pub told : (κ κ' : Lft) (d : Lexer) (t : Bor (List ℕ)) (r : Lexeme) → ent 𝓤 (ensured 𝓛 next.ended (next.clauses 𝓛 mem run) (κ, (κ', tt)) (d, (t, tt)) tt r) (fact 𝓤 (Found d r))
-  told κ κ' d t r = ex_e 𝓤 _ (λ ws. snd∗ 𝓤 (sem 𝓛 (lasts next.ended (κ, (κ', tt)) (d, (t, tt)) ws)) (fact 𝓤 (Found d r)))
+  pub told : (κ : Lft) (d : Lexer) (r : Lexeme) → ent 𝓤 (ensured 𝓛 next.ended (next.clauses 𝓛 mem run) (κ, tt) (d, tt) tt r) (fact 𝓤 (Found d r))
+  told κ d r = ex_e 𝓤 _ (λ ws. snd∗ 𝓤 (sem 𝓛 (lasts next.ended (κ, tt) (d, tt) ws)) (fact 𝓤 (Found d r)))

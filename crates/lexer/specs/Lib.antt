@@ -1,3 +1,4 @@
 pub mod Lex
 pub mod Letters
 pub mod Examples
+pub mod LetterAt

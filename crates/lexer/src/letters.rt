@@ -1,40 +1,74 @@
 // The letters at the head of a text, which the Rust's parse_text reads.
-ghost use Rattle.std.specs.Prelude.{◌≡◌, length};
+ghost use Rattle.std.specs.Prelude.{◌≡◌, ◌^◌, ◌≤◌, ◌<◌, length, drop};
 ghost use Rattle.text.specs.Put.{Room, Puts};
 ghost use Rattle.text.specs.Xml.{in_text};
-ghost use Rattle.token.specs.Key.{rows};
+ghost use Rattle.lexer.specs.Lex.{next_token};
 ghost use Rattle.lexer.specs.Letters.{letters, encode_all};
+ghost use Rattle.lexer.specs.LetterAt.{LetterAt};
 
 use crate::reader::token_from;
+use crate::{Lexeme, is_alphabetic};
+use attribute::Variant;
 use text::Dialect;
-use text::xml::put_character;
+use text::put::Output;
+use text::xml::{character_len, put_character};
 use token::Token;
-use token::table::Table;
+
+// A letter's code point, and the place behind it.
+#[derive(Clone, Copy)]
+pub struct Letter {
+    pub code: u32,
+    pub end: usize,
+}
+
+// The token from a place on: an ASCII letter is a token of one byte, and needs no lexer.
+pub fn letter_or_token(s: &[u8], at: usize) -> Lexeme
+    requires { at ≤ length s.now }
+    ensures { (result ≡ next_token at (drop at s.now)) × (result.end ≤ length s.now) }
+{
+    if at < s.len() && is_alphabetic(s[at]) {
+        return Lexeme::new(Token::Letter(u32::from(s[at]), Variant::Italic), at, at + 1);
+    }
+    token_from(s, at)
+}
+
+// The letter at a place, if the next token there is one.
+pub fn letter_at(t: &[u8], i: usize) -> Option<Letter>
+    requires { i ≤ length t.now }
+    ensures { LetterAt t.now i result }
+{
+    let next = letter_or_token(&t[i..], 0);
+    match next.token {
+        Token::Letter(code, _) => Some(Letter {
+            code,
+            end: i + next.end,
+        }),
+        _ => None,
+    }
+}
 
 // Puts the characters of the letters at the head of a text, in a dialect.
-pub fn put_letters(
-    dialect: Dialect,
-    t: &[u8],
-    out: &mut [u8],
-    at: usize,
-    write: bool,
-    table: &Table,
-) -> usize
-    requires { Room write out.old at (length (in_text dialect (encode_all (letters t.now)))) × (table.now ≡ rows) }
-    ensures { Puts write out.old out.new at (in_text dialect (encode_all (letters t.now))) result }
+pub fn put_letters(dialect: Dialect, t: &[u8], out: &mut Output)
+    requires { Room out.old (length (in_text dialect (encode_all (letters t.now)))) }
+    ensures { Puts out.old out.new (in_text dialect (encode_all (letters t.now))) }
 {
-    let mut place = at;
     let mut i = 0;
-    loop {
-        let rest = &t[i..];
-        let l = token_from(rest, 0, table);
-        let token = l.token;
-        match token {
-            Token::Letter(c, _) => {
-                place = put_character(dialect, c, out, place, write);
-                i += l.end;
-            }
-            _ => return place,
-        }
+    while let Some(letter) = letter_at(t, i) {
+        put_character(dialect, letter.code, out);
+        i = letter.end;
     }
+}
+
+// The length of the characters of the letters at the head of a text, in a dialect.
+pub fn letters_len(dialect: Dialect, t: &[u8]) -> usize
+    requires { length (in_text dialect (encode_all (letters t.now))) < 2 ^ 64 }
+    ensures { result ≡ length (in_text dialect (encode_all (letters t.now))) }
+{
+    let mut n = 0;
+    let mut i = 0;
+    while let Some(letter) = letter_at(t, i) {
+        n += character_len(dialect, letter.code);
+        i = letter.end;
+    }
+    n
 }

@@ -4,13 +4,11 @@
 pub mod letters;
 pub mod reader;
 
-ghost use Rattle.std.specs.Prelude.{◌≡◌, false, ◌+◌, ◌≤◌, ◌<◌, length, drop, get_or};
-ghost use Rattle.token.specs.Key.{rows};
+ghost use Rattle.std.specs.Prelude.{◌≡◌, ℕ, Bool, false, ◌+◌, ◌≤◌, ◌<◌, length, drop, get_or};
 ghost use Rattle.lexer.specs.Lex.{is_whitespace, is_digit, is_alphabetic, run, skip_whitespace, read_number, name_length, lexeme, read_command, number_at, assigns, token_at, next_token};
 
 use attribute::Variant;
 use text::code_point;
-use token::table::Table;
 use token::{Token, from_command};
 
 // A token with the place of its first byte in the body and the place after its last.
@@ -30,32 +28,19 @@ struct Cursor {
 fn is_whitespace(b: u8) -> bool
     ensures { result ≡ is_whitespace b }
 {
-    match b {
-        b' ' => true,
-        b'\t' => true,
-        b'\n' => true,
-        b'\r' => true,
-        _ => false,
-    }
+    matches!(b, b' ' | b'\t' | b'\n' | b'\r')
 }
 
 fn is_digit(b: u8) -> bool
     ensures { result ≡ is_digit b }
 {
-    match b {
-        b'0'..=b'9' => true,
-        _ => false,
-    }
+    matches!(b, b'0'..=b'9')
 }
 
 pub fn is_alphabetic(b: u8) -> bool
     ensures { result ≡ is_alphabetic b }
 {
-    match b {
-        b'a'..=b'z' => true,
-        b'A'..=b'Z' => true,
-        _ => false,
-    }
+    matches!(b, b'a'..=b'z' | b'A'..=b'Z')
 }
 
 impl Lexeme {
@@ -67,19 +52,27 @@ impl Lexeme {
 }
 
 impl Cursor {
+    // Past the bytes that pass a test.
+    fn skip<F: Fn(u8) -> bool>(self, s: &[u8], passes: F) -> Cursor
+        requires inside { self.at ≤ length s.now }
+        requires callable { F.IsAlwaysCallable passes }
+        ensures run { (test : ℕ → Bool) → ((b : ℕ) (r : Bool) → F.post passes b r → r ≡ test b) → result.at ≡ self.at + run test (drop self.at s.now) }
+        ensures inside { result.at ≤ length s.now }
+    {
+        for i in self.at..s.len() {
+            if !passes(s[i]) {
+                return Cursor { at: i };
+            }
+        }
+        Cursor { at: s.len() }
+    }
+
     // Past the whitespace.
     fn skip_whitespace(self, s: &[u8]) -> Cursor
         requires { self.at ≤ length s.now }
         ensures { (result.at ≡ self.at + skip_whitespace (drop self.at s.now)) × (result.at ≤ length s.now) }
     {
-        let mut i = self.at;
-        while i < s.len() {
-            if !is_whitespace(s[i]) {
-                return Cursor { at: i };
-            }
-            i += 1;
-        }
-        Cursor { at: i }
+        self.skip(s, is_whitespace)
     }
 
     // Past the ASCII letters.
@@ -87,14 +80,7 @@ impl Cursor {
         requires { self.at ≤ length s.now }
         ensures { (result.at ≡ self.at + run is_alphabetic (drop self.at s.now)) × (result.at ≤ length s.now) }
     {
-        let mut i = self.at;
-        while i < s.len() {
-            if !is_alphabetic(s[i]) {
-                return Cursor { at: i };
-            }
-            i += 1;
-        }
-        Cursor { at: i }
+        self.skip(s, is_alphabetic)
     }
 
     // Past the digits of a number and at most one period.
@@ -102,24 +88,18 @@ impl Cursor {
         requires { self.at ≤ length s.now }
         ensures { (result.at ≡ self.at + read_number false (drop self.at s.now)) × (result.at ≤ length s.now) }
     {
-        let mut i = self.at;
         let mut has_period = false;
-        while i < s.len() {
+        for i in self.at..s.len() {
             let b = s[i];
             if is_digit(b) {
-                i += 1;
                 continue;
             }
-            if b != b'.' {
-                return Cursor { at: i };
-            }
-            if has_period {
+            if b != b'.' || has_period {
                 return Cursor { at: i };
             }
             has_period = true;
-            i += 1;
         }
-        Cursor { at: i }
+        Cursor { at: s.len() }
     }
 
     // A number from the cursor on.
@@ -127,10 +107,8 @@ impl Cursor {
         requires { self.at ≤ length s.now }
         ensures { result ≡ number_at self.at (drop self.at s.now) }
     {
-        let at = self.at;
-        let after = self.skip_number(s);
-        let end = after.at;
-        Lexeme::new(Token::Number(at, end), at, end)
+        let end = self.skip_number(s).at;
+        Lexeme::new(Token::Number(self.at, end), self.at, end)
     }
 
     // Past the name of a command: a run of ASCII letters, or one character of any other kind.
@@ -138,26 +116,23 @@ impl Cursor {
         requires { self.at ≤ length s.now }
         ensures { (result.at ≡ self.at + name_length (drop self.at s.now)) × (result.at ≤ length s.now) }
     {
-        let at = self.at;
-        if at < s.len() {
-            if is_alphabetic(s[at]) {
-                return self.skip_alphabetic(s);
-            }
+        if self.at < s.len() && is_alphabetic(s[self.at]) {
+            return self.skip_alphabetic(s);
         }
-        let p = code_point(s, at);
-        Cursor { at: at + p.width }
+        Cursor {
+            at: self.at + code_point(s, self.at).width,
+        }
     }
 
     // A command, whose backslash is at the cursor.
-    fn read_command(self, s: &[u8], table: &Table) -> Lexeme
-        requires { (self.at < length s.now) × (table.now ≡ rows) }
+    fn read_command(self, s: &[u8]) -> Lexeme
+        requires { self.at < length s.now }
         ensures { result ≡ read_command self.at (drop 1 (drop self.at s.now)) }
     {
-        let at = self.at;
-        let name = at + 1;
-        let after = Cursor { at: name }.skip_name(s);
-        let end = after.at;
-        Lexeme::new(from_command(s, name, end, table), at, end)
+        let name = self.at + 1;
+        let end = Cursor { at: name }.skip_name(s).at;
+        let token = from_command(&s[name..end], Token::Command(name, end));
+        Lexeme::new(token, self.at, end)
     }
 
     // Whether a colon and an equals sign stand at the cursor.
@@ -165,19 +140,12 @@ impl Cursor {
         requires { self.at ≤ length s.now }
         ensures { result ≡ assigns (drop self.at s.now) }
     {
-        let at = self.at;
-        if s.len() - at < 2 {
-            return false;
-        }
-        if s[at] != b':' {
-            return false;
-        }
-        s[at + 1] == b'='
+        s[self.at..].starts_with(b":=")
     }
 
     // The token at the cursor: one decision over the character there.
-    fn token_at(self, s: &[u8], table: &Table) -> Lexeme
-        requires { (self.at ≤ length s.now) × (table.now ≡ rows) }
+    fn token_at(self, s: &[u8]) -> Lexeme
+        requires { self.at ≤ length s.now }
         ensures { result ≡ token_at self.at (drop self.at s.now) }
     {
         let at = self.at;
@@ -215,7 +183,7 @@ impl Cursor {
                 }
                 Lexeme::new(Token::Operator(58), at, end)
             }
-            92 => self.read_command(s, table), // a backslash
+            92 => self.read_command(s), // a backslash
             48..=57 => self.read_number(s),
             65..=90 => Lexeme::new(Token::Letter(c, Variant::Italic), at, end),
             97..=122 => Lexeme::new(Token::Letter(c, Variant::Italic), at, end),
@@ -224,11 +192,11 @@ impl Cursor {
     }
 
     // The next token, from the first byte that is no whitespace.
-    fn next_token(self, s: &[u8], table: &Table) -> Lexeme
-        requires { (self.at ≤ length s.now) × (table.now ≡ rows) }
+    fn next_token(self, s: &[u8]) -> Lexeme
+        requires { self.at ≤ length s.now }
         ensures { (result ≡ next_token self.at (drop self.at s.now)) × (result.end ≤ length s.now) }
     {
         let here = self.skip_whitespace(s);
-        here.token_at(s, table)
+        here.token_at(s)
     }
 }

@@ -1,10 +1,8 @@
 // The Rust's `Lexer`: a place in the caller's bytes, which it borrows. Its functions leave the work to the cursor.
 ghost use Rattle.std.specs.Prelude.{◌≡◌, ◌≤◌, length, drop};
-ghost use Rattle.token.specs.Key.{rows};
 ghost use Rattle.lexer.specs.Lex.{next_token};
 
 use crate::{Cursor, Lexeme};
-use token::table::Table;
 
 #[derive(Clone, Copy)]
 pub struct Lexer<'a> {
@@ -14,18 +12,18 @@ pub struct Lexer<'a> {
 
 impl<'a> Lexer<'a> {
     // The token at the place; its end is the next place.
-    pub fn next_token(self, table: &Table) -> Lexeme
-        requires { (self.at ≤ length self.input.now) × (table.now ≡ rows) }
+    pub fn next_token(self) -> Lexeme
+        requires { self.at ≤ length self.input.now }
         ensures { (result ≡ next_token self.entry.at (drop self.entry.at self.entry.input.now)) × (result.end ≤ length self.entry.input.now) }
     {
-        Cursor { at: self.at }.next_token(self.input, table)
+        Cursor { at: self.at }.next_token(self.input)
     }
 }
 
 // The token of a text from a place on: with plain parameters.
-pub fn token_from(input: &[u8], at: usize, table: &Table) -> Lexeme
-    requires { (at ≤ length input.now) × (table.now ≡ rows) }
+pub fn token_from(input: &[u8], at: usize) -> Lexeme
+    requires { at ≤ length input.now }
     ensures { (result ≡ next_token at (drop at input.now)) × (result.end ≤ length input.now) }
 {
-    Lexer { input, at }.next_token(table)
+    Lexer { input, at }.next_token()
 }

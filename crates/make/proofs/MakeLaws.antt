@@ -3,7 +3,9 @@
 use mathlib.Core.Path.{◌≡◌, refl, sym, ap, ◌∙◌}
 use mathlib.Core.Bool.{true, false}
 use mathlib.Core.List.{List, [], ◌∷◌}
-use mathlib.Core.Option.{Option, none, some}
+use mathlib.Core.Logic.{◌⊎◌, inl, inr}
+use mathlib.Core.Option.{none, some}
+use Rattle.std.specs.Prelude.{Option, Some, None, Ok}
 use Prim.Native.Nat.{ℕ, ◌+◌, ◌-◌, ◌≤◌, ◌<◌}
 use native.Mathlib.Omega.{arith}
 use types.Run.{OneOf, miss}
@@ -12,7 +14,6 @@ use Rattle.text.proofs.Cases.{never}
 use Rattle.attribute.specs.declared.ColumnAlign.{ColumnAlign}
 use Rattle.attribute.specs.declared.DisplayStyle.{DisplayStyle}
 use Rattle.attribute.specs.declared.LineThickness.{LineThickness}
-use Rattle.token.specs.declared.Binomial.{Binomial}
 use Rattle.token.specs.Texts.{text, texts}
 use Rattle.ast.specs.declared.Stretched.{Stretched}
 use Rattle.ast.specs.declared.Leaf.{Leaf}
@@ -31,16 +32,16 @@ use Rattle.ast.proofs.KindLaws.{kind_of, role_held, leaf_no_row}
 use Rattle.ast.specs.contracts.Role as roles
 use Rattle.ast.proofs.RowLaws.{put_leaf, put_one, put_two, put_three, put_row, put_matrix, put_agrees, row_opened, append_first}
 use Rattle.parser.specs.declared.Parser.{Parser}
-use Rattle.parser.specs.declared.ParsedNode.{ParsedNode}
-use Rattle.parser.specs.declared.Fence.{Fence}
 use Rattle.parser.specs.declared.Pair.{Pair}
-use Rattle.parser.specs.Parse.{Parsed, build, binomial, of_pair, grouped, stretch_leaf, stretch, opened}
-use Rattle.parser.specs.Marks.{fence}
-use Rattle.parser.specs.Built.{Builds, BuildsLeaf, BuildsOne, BuildsTwo, BuildsBehind, BuildsThree, BuildsRow, BuildsMatrix, node_record}
+use Rattle.parser.specs.declared.Limits.{Limits}
+use Rattle.parser.specs.declared.Side.{Side}
+use Rattle.parser.specs.Marks.{script_kind}
+use Rattle.parser.specs.Parse.{Parsed, build, operator, with_below, with_above, binomial, of_pair, grouped, stretch_leaf, stretch, opened}
+use Rattle.parser.specs.Built.{Answer, Builds, BuildsLeaf, BuildsOne, BuildsTwo, BuildsBehind, BuildsThree, BuildsRow, BuildsMatrix, node_record, with_limit}
 
 -- r is the last of k records made since the state p
-abbrev pub Done : Parser → ℕ → ParsedNode → Type 0
-Done p k r = r ≡ ParsedNode.Node (p.made + k - 1) (record { cur = p.cur; peek = p.peek; made = p.made + k })
+abbrev pub Done : Parser → ℕ → Answer → Type 0
+Done p k r = r ≡ Ok (record { node = p.made + k - 1; after = record { cur = p.cur; peek = p.peek; made = p.made + k } })
 
 -- st' is st but for records from m on
 record Grown (st st' : List ℕ) (m : ℕ) : Type 0 where
@@ -53,7 +54,7 @@ put_next : {st st₁ st₂ : List ℕ} {m i : ℕ} {r : Record} → Grown st st�
 put_next g put le = record { kept = λ j lt. put.other j (λ e. omega arith) ∙ g.kept j lt }
 
 -- a tree at the last of the records made is what is built
-built : {st st' : List ℕ} {r : ParsedNode} (lo : ℕ) (p : Parser) (k i : ℕ) (t : Node) → Grown st st' p.made → i + 1 ≡ p.made + k → Holds st' lo i t → Done p k r
+built : {st st' : List ℕ} {r : Answer} (lo : ℕ) (p : Parser) (k i : ℕ) (t : Node) → Grown st st' p.made → i + 1 ≡ p.made + k → Holds st' lo i t → Done p k r
     → Builds st st' lo p (build k t p) r
 unfolding build
 built lo p k i t g last h d =
@@ -63,11 +64,11 @@ built lo p k i t g last h d =
 grown_part : {st st' : List ℕ} {m : ℕ} → Grown st st' m → (x : ℕ) (t : Node) (l u : ℕ) → u ≤ m → FillsTree st x t l u → FillsTree st' x t l u
 grown_part {st} {st'} g x t l u le h = frame_part st st' x t l u (λ j p q. g.kept j (omega arith)) h
 
-built_one : {st st₁ : List ℕ} {q : Record} {r : ParsedNode} (lo : ℕ) (p : Parser) (t : Node)
+built_one : {st st₁ : List ℕ} {q : Record} {r : Answer} (lo : ℕ) (p : Parser) (t : Node)
     → Put st st₁ p.made q → Holds st₁ lo p.made t → Done p 1 r → Builds st st₁ lo p (build 1 t p) r
 built_one lo p t u h d = built lo p 1 p.made t (put_first u) refl h d
 
-built_two : {st st₁ st₂ : List ℕ} {q q' : Record} {r : ParsedNode} (lo : ℕ) (p : Parser) (t : Node)
+built_two : {st st₁ st₂ : List ℕ} {q q' : Record} {r : Answer} (lo : ℕ) (p : Parser) (t : Node)
     → Put st st₁ p.made q → Put st₁ st₂ (p.made + 1) q' → Holds st₂ lo (p.made + 1) t → Done p 2 r → Builds st st₂ lo p (build 2 t p) r
 built_two lo p t u v h d = built lo p 2 (p.made + 1) t (put_next (put_first u) v (omega arith)) (omega arith) h d
 
@@ -113,7 +114,7 @@ turned_inside (in_order mid x y) = in_order mid x (turned_round y)
 turned_inside (swapped mid y x) = swapped mid (turned_round y) x
 
 -- one record is put
-module _ {st st₁ : List ℕ} {r : ParsedNode} (p : Parser) (done : Done p 1 r) where
+module _ {st st₁ : List ℕ} {r : Answer} (p : Parser) (done : Done p 1 r) where
   pub leaf_made : (l : Leaf) → Put st st₁ p.made (node_record (leaf_fields l) 0 0 0) → BuildsLeaf st st₁ p l (build 1 (leaf l) p) r
   leaf_made l u lo g = built_one lo p (leaf l) u (leaf_held lo l u g) done
 
@@ -134,7 +135,7 @@ module _ {st st₁ : List ℕ} {r : ParsedNode} (p : Parser) (done : Done p 1 r)
   matrix_made align f n u lo hi before last ns roof h e = built_one lo p (matrix align ns) u (matrix_held lo hi f before last align ns u roof h e) done
 
 -- a leaf of no operand is put, and a node that has it for a part
-module _ {st st₁ st₂ : List ℕ} {r : ParsedNode} (p : Parser) (done : Done p 2 r) (l : Leaf) (plain : operand_of l ≡ none) (u : Put st st₁ p.made (node_record (leaf_fields l) 0 0 0)) where
+module _ {st st₁ st₂ : List ℕ} {r : Answer} (p : Parser) (done : Done p 2 r) (l : Leaf) (plain : operand_of l ≡ none) (u : Put st st₁ p.made (node_record (leaf_fields l) 0 0 0)) where
   pub leaf_first_made : (k : Two) (b : ℕ) → Put st₁ st₂ (p.made + 1) (node_record (two_fields k) p.made b 0) → BuildsOne st st₂ p b (λ n. build 2 (two k (leaf l) n) p) r
   leaf_first_made k b v lo n h =
       built_two lo p (two k (leaf l) n) u v
@@ -163,7 +164,7 @@ brace_part p l plain k b u v n lo h = record {
 }
 
 -- a brace, with its explanation
-module _ {st st₁ st₂ st₃ : List ℕ} {r : ParsedNode} (p : Parser) (done : Done p 3 r) (l : Leaf) (plain : operand_of l ≡ none) (k : Two) (a b : ℕ)
+module _ {st st₁ st₂ st₃ : List ℕ} {r : Answer} (p : Parser) (done : Done p 3 r) (l : Leaf) (plain : operand_of l ≡ none) (k : Two) (a b : ℕ)
     (u : Put st st₁ p.made (node_record (leaf_fields l) 0 0 0))
     (v : Put st₁ st₂ (p.made + 1) (node_record (two_fields k) p.made b 0))
     (w : Put st₂ st₃ (p.made + 2) (node_record (two_fields k) a (p.made + 1) 0)) where
@@ -186,14 +187,14 @@ module _ {st st₁ st₂ : List ℕ} (p : Parser) (a b : ℕ)
       let frac : Two = Two.Frac LineThickness.Zero in
       one_held lo (One.Fenced 1 2) (two frac m n) v (record { here = two_held lo frac m n u h; ends = omega arith })
 
-  pub binomial_made : {r : ParsedNode} → Done p 2 r → BuildsTwo st st₂ p a b (λ m n. of_pair (Pair.Binom Binomial.Plain) m n p) r
+  pub binomial_made : {r : Answer} → Done p 2 r → BuildsTwo st st₂ p a b (λ m n. of_pair (Pair.Binom None) m n p) r
   unfolding of_pair
   binomial_made d lo m n h = built_two lo p (binomial m n) u v (binomial_held lo m n h) d
 
-  pub styled_made : {st₃ st₄ : List ℕ} {r : ParsedNode} (d : DisplayStyle)
+  pub styled_made : {st₃ st₄ : List ℕ} {r : Answer} (d : DisplayStyle)
       → Put st₂ st₃ (p.made + 2) (node_record (fields (Shape.Row 1)) (p.made + 1) 0 0)
       → Put st₃ st₄ (p.made + 3) (node_record (one_fields (One.Style d)) (p.made + 2) 0 0)
-      → Done p 4 r → BuildsTwo st st₄ p a b (λ m n. of_pair (Pair.Binom (Binomial.Styled d)) m n p) r
+      → Done p 4 r → BuildsTwo st st₄ p a b (λ m n. of_pair (Pair.Binom (Some d)) m n p) r
   unfolding of_pair count
   styled_made d w x e lo m n h =
       let alone = append_first st₂ lo (p.made + 1) 0 (p.made + 2) (binomial m n) (binomial_held lo m n h) (omega arith) in
@@ -204,13 +205,13 @@ module _ {st st₁ st₂ : List ℕ} (p : Parser) (a b : ℕ)
       e
 
 -- the nodes of a group: one is no row
-pub group_of_one : (st : List ℕ) (p : Parser) (f n : ℕ) → n ≡ 1 → BuildsRow st st p f n (λ ns. grouped ns p) (ParsedNode.Node f p)
+pub group_of_one : (st : List ℕ) (p : Parser) (f n : ℕ) → n ≡ 1 → BuildsRow st st p f n (λ ns. grouped ns p) (Ok (record { node = f; after = p }))
 unfolding grouped count
 group_of_one st p f n z lo before last empty h e = absurd (omega arith)
 group_of_one st p f n z lo before last (t then empty) h e = record { tree = t; is = refl; held = h.here; last = h.rest.1; kept = λ j lt. refl }
 group_of_one st p f n z lo before last (t then (m then ns)) h e = absurd (omega arith)
 
-pub group_made : {st st' : List ℕ} {r : ParsedNode} (p : Parser) (f n : ℕ) → (n ≡ 1 → ⊥) → Put st st' p.made (node_record (fields (Shape.Row n)) f 0 0) → Done p 1 r
+pub group_made : {st st' : List ℕ} {r : Answer} (p : Parser) (f n : ℕ) → (n ≡ 1 → ⊥) → Put st st' p.made (node_record (fields (Shape.Row n)) f 0 0) → Done p 1 r
     → BuildsRow st st' p f n (λ ns. grouped ns p) r
 unfolding grouped count
 group_made p f n z u d lo before last empty h e = row_made p d f n u lo before last empty h e
@@ -218,7 +219,7 @@ group_made p f n z u d lo before last (t then empty) h e = absurd (z e)
 group_made p f n z u d lo before last (t then (m then ns)) h e = row_made p d f n u lo before last (t then (m then ns)) h e
 
 -- a matrix between fences
-pub fenced_matrix_made : {st st₁ st₂ : List ℕ} {r : ParsedNode} (p : Parser) (align : ColumnAlign) (t s f n : ℕ)
+pub fenced_matrix_made : {st st₁ st₂ : List ℕ} {r : Answer} (p : Parser) (align : ColumnAlign) (t s f n : ℕ)
     → Put st st₁ p.made (node_record (fields (Shape.Matrix align n)) f 0 0)
     → Put st₁ st₂ (p.made + 1) (node_record (one_fields (One.Fenced t s)) p.made 0 0)
     → Done p 2 r → BuildsMatrix st st₂ p f n (λ ns. build 2 (one (One.Fenced t s) (matrix align ns)) p) r
@@ -226,24 +227,24 @@ fenced_matrix_made p align t s f n u v d lo hi before last ns roof h e =
     let inside = matrix_held lo hi f before last align ns u roof h e in
     built_two lo p (one (One.Fenced t s) (matrix align ns)) u v (one_held lo (One.Fenced t s) (matrix align ns) v (record { here = inside; ends = omega arith })) d
 
--- no text of a fence, and one
-pub fence_none : (o : Option ℕ) → fence o ≡ Fence.Missing → o ≡ none
-unfolding fence
-fence_none none e = refl
-fence_none (some t) e = never cc
+-- an operator alone, and an integral with one limit
+pub operator_of_either : (k : Limits) {c : ℕ} → (k ≡ Limits.BigOp c) ⊎ (k ≡ Limits.Integral c) → operator k ≡ leaf (Leaf.Operator c)
+unfolding operator
+operator_of_either k (inl e) = rw e
+operator_of_either k (inr e) = rw e
 
-pub fence_some : (o : Option ℕ) (t : ℕ) → fence o ≡ Fence.Fixed t → o ≡ some t
-unfolding fence
-fence_some none t e = never cc
-fence_some (some u) t e = let q : u ≡ t = cc in ap (λ x. some x) q
+pub integral_limit : (side : Side) (c : ℕ) (n : Node) (p : Parser) → with_limit side (Limits.Integral c) n p ≡ build 2 (two (script_kind side) (leaf (Leaf.Operator c)) n) p
+unfolding with_below with_above
+integral_limit Side.Under c n p = refl
+integral_limit Side.Over c n p = refl
 
 -- what `\middle` makes of a node of a role
 abbrev stretch_role : Role → Option Stretched
-stretch_role Role.Letter = none
-stretch_role (Role.Operator c) = some (Stretched.Character c)
-stretch_role (Role.OtherOperator t) = some (Stretched.Fixed t)
-stretch_role (Role.Row n) = none
-stretch_role Role.Other = none
+stretch_role Role.Letter = None
+stretch_role (Role.Operator c) = Some (Stretched.Character c)
+stretch_role (Role.OtherOperator t) = Some (Stretched.Fixed t)
+stretch_role (Role.Row n) = None
+stretch_role Role.Other = None
 
 stretch_leaf_lem : (l : Leaf) → stretch_leaf l ≡ stretch_role (leaf_role l)
 unfolding stretch_leaf
@@ -277,7 +278,7 @@ unstretched = 0 ∷ 3 ∷ 4 ∷ []
 abbrev pub unrowed : List ℕ
 unrowed = 0 ∷ 1 ∷ 2 ∷ 4 ∷ []
 
-no_stretched : (k : Role) → OneOf unstretched (tag_of roles.the_type k) → stretch_role k ≡ none
+no_stretched : (k : Role) → OneOf unstretched (tag_of roles.the_type k) → stretch_role k ≡ None
 no_stretched Role.Letter h = refl
 no_stretched (Role.Operator c) h = absurd (miss unstretched 1 tt h)
 no_stretched (Role.OtherOperator t) h = absurd (miss unstretched 2 tt h)
@@ -373,7 +374,7 @@ module _ (st : List ℕ) (i : ℕ) {q : Record} {k : Role} (read : q ≡ record_
   pub stretched_as : (k' : Role) → k ≡ k' → (lo : ℕ) (t : Node) → Holds st lo i t → stretch t ≡ stretch_role k'
   stretched_as k' e lo t h = stretch_role_lem t ∙ ap (λ x. stretch_role x) (role_read lo t h ∙ e)
 
-  pub stretched_none : OneOf unstretched (tag_of roles.the_type k) → (lo : ℕ) (t : Node) → Holds st lo i t → stretch t ≡ none
+  pub stretched_none : OneOf unstretched (tag_of roles.the_type k) → (lo : ℕ) (t : Node) → Holds st lo i t → stretch t ≡ None
   stretched_none o lo t h = stretched_as k refl lo t h ∙ no_stretched k o
 
   -- the operand of a stretched operator is its record before
@@ -385,7 +386,7 @@ module _ (st : List ℕ) (i : ℕ) {q : Record} {k : Role} (read : q ≡ record_
       (omega arith, rw first held.1.kind)
 
   -- what is built of the nodes of a row is built of the row opened, and so for a node alone
-  module _ (st' : List ℕ) (p : Parser) (r : ParsedNode) (want : Nodes → Parsed Node) where
+  module _ (st' : List ℕ) (p : Parser) (r : Answer) (want : Nodes → Parsed Node) where
     pub opened_row : (n : ℕ) → k ≡ Role.Row n → BuildsMatrix st st' p q.a n want r → BuildsOne st st' p i (λ t. want (opened t)) r
     unfolding opened row_at
     opened_row n e b lo t h =

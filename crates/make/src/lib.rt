@@ -1,7 +1,7 @@
-// The records that the parser makes once the operands of a node are read.
+// The records that the parser makes once the operands of a node are read. Those that cannot be refused are a Result too, as their callers answer with it.
 #![tactic(auto)]
 
-ghost use Rattle.std.specs.Prelude.{◌≡◌, ◌+◌, ◌-◌, ◌*◌, ◌^◌, ◌≤◌, ◌<◌, length};
+ghost use Rattle.std.specs.Prelude.{◌≡◌, ◌+◌, ◌-◌, ◌*◌, ◌^◌, ◌≤◌, ◌<◌, length, Ok, Some};
 ghost use Rattle.token.specs.Roles.{paren_of};
 ghost use Rattle.ast.specs.Shape.{Placed};
 ghost use Rattle.ast.specs.Store.{Put};
@@ -14,12 +14,11 @@ ghost use Rattle.parser.specs.Built.{node_record, Free, BuildsNone, BuildsLeaf, 
 
 use ast::codes::role_of;
 use ast::store::{get_record, put_record};
-use ast::{Fields, Leaf, One, Record, Role, Stretched, Three, Two, codes};
-use attribute::{Accent, ColumnAlign, LineThickness};
+use ast::{Fields, Leaf, One, Record, Role, Stretched, Three, Two};
+use attribute::{Accent, ColumnAlign, DisplayStyle, LineThickness};
 use error::Refusal;
-use parser::marks::{fence_of, paren_of, script_of};
-use parser::{Environment, Fence, Limits, Pair, ParsedNode, Parser, Script};
-use token::Binomial;
+use parser::marks::{fence_of, paren_of, script_kind, script_of};
+use parser::{Environment, Limits, Pair, ParsedNode, Parser, Side};
 
 // Puts a node of which the numbers are f, with its parts, at an index.
 fn put_node(store: &mut [u8], i: usize, f: Fields, a: usize, b: usize, c: usize)
@@ -32,9 +31,9 @@ fn put_node(store: &mut [u8], i: usize, f: Fields, a: usize, b: usize, c: usize)
         Record {
             tag: f.tag,
             attr: f.attr,
-            a: a,
-            b: b,
-            c: c,
+            a,
+            b,
+            c,
             next: 0,
             x: f.x,
             y: f.y,
@@ -43,49 +42,64 @@ fn put_node(store: &mut [u8], i: usize, f: Fields, a: usize, b: usize, c: usize)
 }
 
 // The node that is the last of the k records made since the state p.
-fn done(p: Parser, k: usize) -> ParsedNode
+fn done(p: Parser, k: usize) -> Result<ParsedNode, Refusal>
     requires { (0 < k) × (p.made + k < 2 ^ 64) }
-    ensures { result ≡ ParsedNode.Node (p.made + k - 1) (record { cur = p.cur; peek = p.peek; made = p.made + k }) }
+    ensures { result ≡ Ok (record { node = p.made + k - 1; after = record { cur = p.cur; peek = p.peek; made = p.made + k } }) }
 {
-    let cur = p.cur;
-    let peek = p.peek;
-    let made = p.made + k;
-    ParsedNode::Node(made - 1, Parser { cur, peek, made })
+    let mut after = p;
+    after.made += k;
+    Ok(ParsedNode {
+        node: after.made - 1,
+        after,
+    })
 }
 
 // A node with no part.
-pub fn make_leaf(store: &mut [u8], p: Parser, l: Leaf) -> ParsedNode
+pub fn make_leaf(store: &mut [u8], p: Parser, l: Leaf) -> Result<ParsedNode, Refusal>
     requires { Free store.old p 1 × Placed l }
     ensures { BuildsLeaf store.old store.new p l (build 1 (leaf l) p) result }
 {
-    put_node(store, p.made, codes::leaf_fields(l), 0, 0, 0);
+    put_node(store, p.made, l.fields(), 0, 0, 0);
     done(p, 1)
 }
 
 // A node with one part, which stands at an index.
-pub fn make_one(store: &mut [u8], p: Parser, k: One, a: usize) -> ParsedNode
+pub fn make_one(store: &mut [u8], p: Parser, k: One, a: usize) -> Result<ParsedNode, Refusal>
     requires { Free store.old p 1 × (a < p.made) }
     ensures { BuildsOne store.old store.new p a (λ n. build 1 (one k n) p) result }
 {
-    put_node(store, p.made, codes::one_fields(k), a, 0, 0);
+    put_node(store, p.made, Fields::from(k), a, 0, 0);
     done(p, 1)
 }
 
 // A node with two parts.
-pub fn make_two(store: &mut [u8], p: Parser, k: Two, a: usize, b: usize) -> ParsedNode
+pub fn make_two(
+    store: &mut [u8],
+    p: Parser,
+    k: Two,
+    a: usize,
+    b: usize,
+) -> Result<ParsedNode, Refusal>
     requires { Free store.old p 1 × (a < p.made) × (b < p.made) }
     ensures { BuildsTwo store.old store.new p a b (λ m n. build 1 (two k m n) p) result }
 {
-    put_node(store, p.made, codes::two_fields(k), a, b, 0);
+    put_node(store, p.made, Fields::from(k), a, b, 0);
     done(p, 1)
 }
 
 // A node with three parts.
-fn make_three(store: &mut [u8], p: Parser, k: Three, a: usize, b: usize, c: usize) -> ParsedNode
+fn make_three(
+    store: &mut [u8],
+    p: Parser,
+    k: Three,
+    a: usize,
+    b: usize,
+    c: usize,
+) -> Result<ParsedNode, Refusal>
     requires { Free store.old p 1 × (a < p.made) × (b < p.made) × (c < p.made) }
     ensures { BuildsThree store.old store.new p a b c (λ m n o. build 1 (three k m n o) p) result }
 {
-    put_node(store, p.made, codes::three_fields(k), a, b, c);
+    put_node(store, p.made, Fields::from(k), a, b, c);
     done(p, 1)
 }
 
@@ -93,64 +107,80 @@ fn make_three(store: &mut [u8], p: Parser, k: Three, a: usize, b: usize, c: usiz
 fn make_sub_sup(
     store: &mut [u8],
     p: Parser,
-    over: bool,
+    side: Side,
     base: usize,
     x: usize,
     y: usize,
-) -> ParsedNode
+) -> Result<ParsedNode, Refusal>
     requires { Free store.old p 1 × (base < p.made) × (x < p.made) × (y < p.made) }
-    ensures { BuildsThree store.old store.new p base x y (λ m n o. build 1 (sub_sup over m n o) p) result }
+    ensures { BuildsThree store.old store.new p base x y (λ m n o. build 1 (sub_sup side m n o) p) result }
 {
-    if over {
-        return make_three(store, p, Three::SubSup, base, y, x);
+    match side {
+        Side::Under => make_three(store, p, Three::SubSup, base, x, y),
+        Side::Over => make_three(store, p, Three::SubSup, base, y, x),
     }
-    make_three(store, p, Three::SubSup, base, x, y)
 }
 
 // .. unless a mark is next, which repeats one of the two.
 pub fn make_scripts(
     store: &mut [u8],
     p: Parser,
-    over: bool,
+    side: Side,
     base: usize,
     x: usize,
     y: usize,
-) -> ParsedNode
+) -> Result<ParsedNode, Refusal>
     requires { Free store.old p 1 × (base < p.made) × (x < p.made) × (y < p.made) }
-    ensures { BuildsThree store.old store.new p base x y (λ m n o. both_scripts (script_of p.peek.token) (sub_sup over m n o) p) result }
+    ensures { BuildsThree store.old store.new p base x y (λ m n o. both_scripts (script_of p.peek.token) (sub_sup side m n o) p) result }
 {
-    let peek = p.peek;
-    let token = peek.token;
-    match script_of(token) {
-        Script::Neither => make_sub_sup(store, p, over, base, x, y),
-        Script::Operand(_) => ParsedNode::Refused(Refusal::RepeatedMark),
+    match script_of(p.peek.token) {
+        Some(_) => Err(Refusal::RepeatedMark),
+        None => make_sub_sup(store, p, side, base, x, y),
     }
 }
 
 // A node whose first part is a leaf.
-pub fn make_leaf_first(store: &mut [u8], p: Parser, k: Two, l: Leaf, b: usize) -> ParsedNode
+pub fn make_leaf_first(
+    store: &mut [u8],
+    p: Parser,
+    k: Two,
+    l: Leaf,
+    b: usize,
+) -> Result<ParsedNode, Refusal>
     requires { Free store.old p 2 × Placed l × (b < p.made) × (operand_of l ≡ none) }
     ensures { BuildsOne store.old store.new p b (λ n. build 2 (two k (leaf l) n) p) result }
 {
     let i = p.made;
-    put_node(store, i, codes::leaf_fields(l), 0, 0, 0);
-    put_node(store, i + 1, codes::two_fields(k), i, b, 0);
+    put_node(store, i, l.fields(), 0, 0, 0);
+    put_node(store, i + 1, Fields::from(k), i, b, 0);
     done(p, 2)
 }
 
 // A node whose second part is a leaf.
-pub fn make_leaf_second(store: &mut [u8], p: Parser, k: Two, a: usize, l: Leaf) -> ParsedNode
+pub fn make_leaf_second(
+    store: &mut [u8],
+    p: Parser,
+    k: Two,
+    a: usize,
+    l: Leaf,
+) -> Result<ParsedNode, Refusal>
     requires { Free store.old p 2 × Placed l × (a < p.made) × (operand_of l ≡ none) }
     ensures { BuildsOne store.old store.new p a (λ n. build 2 (two k n (leaf l)) p) result }
 {
     let i = p.made;
-    put_node(store, i, codes::leaf_fields(l), 0, 0, 0);
-    put_node(store, i + 1, codes::two_fields(k), a, i, 0);
+    put_node(store, i, l.fields(), 0, 0, 0);
+    put_node(store, i + 1, Fields::from(k), a, i, 0);
     done(p, 2)
 }
 
 // A fraction without a line, between parentheses; with a style it is in a row of its own.
-fn make_binom(store: &mut [u8], p: Parser, d: Binomial, a: usize, b: usize) -> ParsedNode
+fn make_binom(
+    store: &mut [u8],
+    p: Parser,
+    d: Option<DisplayStyle>,
+    a: usize,
+    b: usize,
+) -> Result<ParsedNode, Refusal>
     requires { Free store.old p 4 × (a < p.made) × (b < p.made) }
     ensures { BuildsTwo store.old store.new p a b (λ m n. of_pair (Pair.Binom d) m n p) result }
 {
@@ -158,31 +188,30 @@ fn make_binom(store: &mut [u8], p: Parser, d: Binomial, a: usize, b: usize) -> P
     put_node(
         store,
         i,
-        codes::two_fields(Two::Frac(LineThickness::Zero)),
+        Fields::from(Two::Frac(LineThickness::Zero)),
         a,
         b,
         0,
     );
-    put_node(store, i + 1, codes::one_fields(One::Fenced(1, 2)), i, 0, 0); // ( )
+    put_node(store, i + 1, Fields::from(One::Fenced(1, 2)), i, 0, 0); // ( )
     match d {
-        Binomial::Plain => done(p, 2),
-        Binomial::Styled(display) => {
-            put_node(store, i + 2, codes::row_fields(1), i + 1, 0, 0);
-            put_node(
-                store,
-                i + 3,
-                codes::one_fields(One::Style(display)),
-                i + 2,
-                0,
-                0,
-            );
+        None => done(p, 2),
+        Some(display) => {
+            put_node(store, i + 2, Fields::row(1), i + 1, 0, 0);
+            put_node(store, i + 3, Fields::from(One::Style(display)), i + 2, 0, 0);
             done(p, 4)
         }
     }
 }
 
 // The node of a command with two operands.
-pub fn make_pair(store: &mut [u8], p: Parser, k: Pair, a: usize, b: usize) -> ParsedNode
+pub fn make_pair(
+    store: &mut [u8],
+    p: Parser,
+    k: Pair,
+    a: usize,
+    b: usize,
+) -> Result<ParsedNode, Refusal>
     requires { Free store.old p 4 × (a < p.made) × (b < p.made) }
     ensures { BuildsTwo store.old store.new p a b (λ m n. of_pair k m n p) result }
 {
@@ -202,81 +231,74 @@ pub fn make_explained(
     x: u32,
     target: usize,
     expl: usize,
-) -> ParsedNode
+) -> Result<ParsedNode, Refusal>
     requires { Free store.old p 3 × (target < p.made) × (expl < p.made) }
     ensures { BuildsBehind store.old store.new p target expl (λ m n. build 3 (two k m (two k (leaf (Leaf.Operator x)) n)) p) result }
 {
     let i = p.made;
-    put_node(store, i, codes::leaf_fields(Leaf::Operator(x)), 0, 0, 0);
-    put_node(store, i + 1, codes::two_fields(k), i, expl, 0);
-    put_node(store, i + 2, codes::two_fields(k), target, i + 1, 0);
+    put_node(store, i, Leaf::Operator(x).fields(), 0, 0, 0);
+    put_node(store, i + 1, Fields::from(k), i, expl, 0);
+    put_node(store, i + 2, Fields::from(k), target, i + 1, 0);
     done(p, 3)
 }
 
 // An operator without limits.
-pub fn make_alone(store: &mut [u8], p: Parser, k: Limits) -> ParsedNode
+pub fn make_alone(store: &mut [u8], p: Parser, k: Limits) -> Result<ParsedNode, Refusal>
     requires { Free store.old p 1 }
     ensures { BuildsNone store.old store.new p (build 1 (operator k) p) result }
 {
     match k {
-        Limits::BigOp(c) => make_leaf(store, p, Leaf::Operator(c)),
-        Limits::Integral(c) => make_leaf(store, p, Leaf::Operator(c)),
+        Limits::BigOp(c) | Limits::Integral(c) => make_leaf(store, p, Leaf::Operator(c)),
     }
 }
 
-// An operator with what stands below it.
-fn make_below(store: &mut [u8], p: Parser, k: Limits, x: usize) -> ParsedNode
+// An operator with one limit, above it or below.
+#[tactic(auto, using(crate::proofs::MakeLaws::integral_limit), unfolding(parser::specs::Parse::with_below, parser::specs::Parse::with_above))]
+pub fn make_limit(
+    store: &mut [u8],
+    p: Parser,
+    k: Limits,
+    side: Side,
+    x: usize,
+) -> Result<ParsedNode, Refusal>
     requires { Free store.old p 2 × (x < p.made) }
-    ensures { BuildsOne store.old store.new p x (λ n. with_below k n p) result }
+    ensures { BuildsOne store.old store.new p x (λ n. with_limit side k n p) result }
 {
-    match k {
-        Limits::BigOp(c) => make_leaf_first(store, p, Two::Under, Leaf::Operator(c), x),
-        Limits::Integral(c) => make_leaf_first(store, p, Two::Subscript, Leaf::Operator(c), x),
-    }
-}
-
-// An operator with what stands above it.
-fn make_above(store: &mut [u8], p: Parser, k: Limits, x: usize) -> ParsedNode
-    requires { Free store.old p 2 × (x < p.made) }
-    ensures { BuildsOne store.old store.new p x (λ n. with_above k n p) result }
-{
-    match k {
-        Limits::BigOp(c) => make_one(store, p, One::OverOp(c, Accent::False), x),
-        Limits::Integral(c) => make_leaf_first(store, p, Two::Superscript, Leaf::Operator(c), x),
+    match (k, side) {
+        (Limits::BigOp(c), Side::Under) => make_leaf_first(
+            store,
+            p,
+            Two::Under,
+            Leaf::Operator(c),
+            x,
+        ),
+        (Limits::BigOp(c), Side::Over) => make_one(store, p, One::OverOp(c, Accent::False), x),
+        (Limits::Integral(c), side) => make_leaf_first(
+            store,
+            p,
+            script_kind(side),
+            Leaf::Operator(c),
+            x,
+        ),
     }
 }
 
 // The records of an operator with two limits.
-fn make_both(store: &mut [u8], p: Parser, k: Three, c: u32, x: usize, y: usize) -> ParsedNode
+fn make_both(
+    store: &mut [u8],
+    p: Parser,
+    k: Three,
+    c: u32,
+    x: usize,
+    y: usize,
+) -> Result<ParsedNode, Refusal>
     requires { Free store.old p 2 × (x < p.made) × (y < p.made) }
     ensures { BuildsTwo store.old store.new p x y (λ m n. build 2 (three k (leaf (Leaf.Operator c)) m n) p) result }
 {
     let i = p.made;
-    put_node(store, i, codes::leaf_fields(Leaf::Operator(c)), 0, 0, 0);
-    put_node(store, i + 1, codes::three_fields(k), i, x, y);
+    put_node(store, i, Leaf::Operator(c).fields(), 0, 0, 0);
+    put_node(store, i + 1, Fields::from(k), i, x, y);
     done(p, 2)
-}
-
-// An operator with one limit, above it or below.
-pub fn make_limit(store: &mut [u8], p: Parser, k: Limits, over: bool, x: usize) -> ParsedNode
-    requires { Free store.old p 2 × (x < p.made) }
-    ensures { BuildsOne store.old store.new p x (λ n. with_limit over k n p) result }
-{
-    if over {
-        return make_above(store, p, k, x);
-    }
-    make_below(store, p, k, x)
-}
-
-// An operator with what stands below and above it.
-fn make_under_over(store: &mut [u8], p: Parser, k: Limits, under: usize, over: usize) -> ParsedNode
-    requires { Free store.old p 2 × (under < p.made) × (over < p.made) }
-    ensures { BuildsTwo store.old store.new p under over (λ m n. with_both k m n p) result }
-{
-    match k {
-        Limits::BigOp(c) => make_both(store, p, Three::UnderOver, c, under, over),
-        Limits::Integral(c) => make_both(store, p, Three::SubSup, c, under, over),
-    }
 }
 
 // An operator with both limits, of which x was read first and stands above or below.
@@ -284,66 +306,73 @@ pub fn make_limits(
     store: &mut [u8],
     p: Parser,
     k: Limits,
-    over: bool,
+    side: Side,
     x: usize,
     y: usize,
-) -> ParsedNode
+) -> Result<ParsedNode, Refusal>
     requires { Free store.old p 2 × (x < p.made) × (y < p.made) }
-    ensures { BuildsTwo store.old store.new p x y (λ m n. with_limits over k m n p) result }
+    ensures { BuildsTwo store.old store.new p x y (λ m n. with_limits side k m n p) result }
 {
-    if over {
-        return make_under_over(store, p, k, y, x);
+    match (k, side) {
+        (Limits::BigOp(c), Side::Under) => make_both(store, p, Three::UnderOver, c, x, y),
+        (Limits::BigOp(c), Side::Over) => make_both(store, p, Three::UnderOver, c, y, x),
+        (Limits::Integral(c), Side::Under) => make_both(store, p, Three::SubSup, c, x, y),
+        (Limits::Integral(c), Side::Over) => make_both(store, p, Three::SubSup, c, y, x),
     }
-    make_under_over(store, p, k, x, y)
 }
 
 // What `\middle` makes of its operand.
-pub fn make_stretched(store: &mut [u8], p: Parser, i: usize) -> ParsedNode
+pub fn make_stretched(store: &mut [u8], p: Parser, i: usize) -> Result<ParsedNode, Refusal>
     requires { Free store.old p 1 × (i < p.made) }
     ensures { BuildsOne store.old store.new p i (λ n. stretched (stretch n) p) result }
 {
     match role_of(get_record(store, i)) {
         Role::Operator(c) => make_leaf(store, p, Leaf::StrechedOp(Stretched::Character(c))),
         Role::OtherOperator(t) => make_leaf(store, p, Leaf::StrechedOp(Stretched::Fixed(t))),
-        _ => ParsedNode::Refused(Refusal::MiddleOperand),
+        _ => Err(Refusal::MiddleOperand),
     }
 }
 
 // A sized parenthesis, which is the current token.
-pub fn make_big(store: &mut [u8], p: Parser, size: u32) -> ParsedNode
+pub fn make_big(store: &mut [u8], p: Parser, size: u32) -> Result<ParsedNode, Refusal>
     requires { Free store.old p 1 }
     ensures { BuildsNone store.old store.new p (sized size (paren_of p.cur.token) p) result }
 {
-    let cur = p.cur;
-    let token = cur.token;
-    match paren_of(token) {
-        Fence::Missing => ParsedNode::Refused(Refusal::UnexpectedToken),
-        Fence::Fixed(t) => make_leaf(store, p, Leaf::SizedParen(size, t)),
-    }
+    let t = paren_of(p.cur.token).ok_or(Refusal::UnexpectedToken)?;
+    make_leaf(store, p, Leaf::SizedParen(size, t))
 }
 
 // A node between fences, of which the second is the current token.
-pub fn make_fenced(store: &mut [u8], p: Parser, first: u32, content: usize) -> ParsedNode
+pub fn make_fenced(
+    store: &mut [u8],
+    p: Parser,
+    first: u32,
+    content: usize,
+) -> Result<ParsedNode, Refusal>
     requires { Free store.old p 1 × (content < p.made) }
     ensures { BuildsOne store.old store.new p content (λ n. fenced first n p) result }
 {
-    let cur = p.cur;
-    let token = cur.token;
-    match fence_of(token) {
-        Fence::Missing => ParsedNode::Refused(Refusal::MissingParensethis),
-        Fence::Fixed(t) => make_one(store, p, One::Fenced(first, t), content),
-    }
+    let second = fence_of(p.cur.token).ok_or(Refusal::MissingParensethis)?;
+    make_one(store, p, One::Fenced(first, second), content)
 }
 
 // The nodes of a group: a row, unless there is exactly one.
-pub fn make_row(store: &mut [u8], p: Parser, first: usize, count: usize) -> ParsedNode
+pub fn make_row(
+    store: &mut [u8],
+    p: Parser,
+    first: usize,
+    count: usize,
+) -> Result<ParsedNode, Refusal>
     requires { Free store.old p 1 × (first < 65536) × (count < 2 ^ 32) }
     ensures { BuildsRow store.old store.new p first count (λ ns. grouped ns p) result }
 {
     if count == 1 {
-        return ParsedNode::Node(first, p);
+        return Ok(ParsedNode {
+            node: first,
+            after: p,
+        });
     }
-    put_node(store, p.made, codes::row_fields(count as u32), first, 0, 0);
+    put_node(store, p.made, Fields::row(count as u32), first, 0, 0);
     done(p, 1)
 }
 
@@ -354,37 +383,42 @@ fn make_matrix(
     env: Environment,
     first: usize,
     count: u32,
-) -> ParsedNode
+) -> Result<ParsedNode, Refusal>
     requires { Free store.old p 2 × (first < 65536) }
-    ensures { BuildsMatrix store.old store.new p first count (λ ns. in_environment env ns p) result }
+    ensures { BuildsMatrix store.old store.new p first count (λ ns. in_environment (Some env) ns p) result }
 {
     let i = p.made;
     match env {
-        Environment::Unknown => ParsedNode::Refused(Refusal::UnknownEnvironment),
         Environment::Bare(align) => {
-            put_node(store, i, codes::matrix_fields(align, count), first, 0, 0);
+            put_node(store, i, Fields::matrix(align, count), first, 0, 0);
             done(p, 1)
         }
         Environment::Between(t, u) => {
             put_node(
                 store,
                 i,
-                codes::matrix_fields(ColumnAlign::Center, count),
+                Fields::matrix(ColumnAlign::Center, count),
                 first,
                 0,
                 0,
             );
-            put_node(store, i + 1, codes::one_fields(One::Fenced(t, u)), i, 0, 0);
+            put_node(store, i + 1, Fields::from(One::Fenced(t, u)), i, 0, 0);
             done(p, 2)
         }
     }
 }
 
-// An environment around its content: a row is opened for its nodes.
-pub fn make_environment(store: &mut [u8], p: Parser, env: Environment, content: usize) -> ParsedNode
+// An environment around its content: a row is opened for its nodes. An unknown one is refused here, behind its content.
+pub fn make_environment(
+    store: &mut [u8],
+    p: Parser,
+    env: Option<Environment>,
+    content: usize,
+) -> Result<ParsedNode, Refusal>
     requires { Free store.old p 2 × (content < p.made) }
     ensures { BuildsOne store.old store.new p content (λ n. in_environment env (opened n) p) result }
 {
+    let env = env.ok_or(Refusal::UnknownEnvironment)?;
     let r = get_record(store, content);
     match role_of(r) {
         Role::Row(n) => make_matrix(store, p, env, r.a, n),

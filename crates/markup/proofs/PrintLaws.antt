@@ -2,7 +2,7 @@
 -- Assumes nothing.
 use mathlib.Core.Path.{◌≡◌, refl}
 use mathlib.Core.Bool.{true, false}
-use mathlib.Core.List.{List, [], ◌++◌, append_assoc, append-nil}
+use mathlib.Core.List.{List, ◌++◌, append_assoc}
 use Prim.Native.Nat.{ℕ}
 use borrow.Author.Tests.{ne_eqb}
 use Rattle.text.specs.Text.{bytes}
@@ -35,11 +35,11 @@ pub other_operator : (d : Dialect) (c : ℕ) → (c ≡ 8706 → ⊥) → operat
 unfolding operator_markup
 other_operator d c other = rw (operator_markup, ne_eqb c 8706 other)
 
--- a sized parenthesis in four pieces
+-- a sized parenthesis in two pieces and what is behind them
 pub sized_pieces : (z t end : List ℕ)
     → bytes "<mrow><mo maxsize=\"" ++ z ++ bytes "\" minsize=\"" ++ z ++ bytes "\">" ++ t ++ end
-    ≡ (bytes "<mrow><mo maxsize=\"" ++ z ++ bytes "\" minsize=\"") ++ (([] ++ z ++ bytes "\">") ++ (([] ++ t ++ []) ++ end))
-sized_pieces z t end = simp (append_assoc, append-nil)
+    ≡ bytes "<mrow><mo maxsize=\"" ++ z ++ (bytes "\" minsize=\"" ++ z ++ (bytes "\">" ++ t ++ end))
+sized_pieces z t end = simp append_assoc
 
 around : (p q t r g : List ℕ) → p ++ (q ++ t ++ r) ++ g ≡ (p ++ q) ++ t ++ (r ++ g)
 around p q t r g = simp append_assoc

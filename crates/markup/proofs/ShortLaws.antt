@@ -34,7 +34,7 @@ use Rattle.attribute.specs.Names.{variant, is_italic, accent, line_thickness, co
 use Rattle.token.specs.declared.Undefined.{Undefined}
 use Rattle.token.specs.Texts.{texts, printed_widths, text_of, text_in, width_of}
 use Rattle.token.specs.Command.{operator_in}
-use Rattle.token.specs.Debug.{digit, hexadecimal, control, escapes, escape_by, escape, or_nul, command_name, debug}
+use Rattle.token.specs.Debug.{digit, hexadecimal, control, escapes, escape_by, escape, or_nul, command_name, debug, command_text}
 use Rattle.token.proofs.DebugLaws.{plain_byte, plain_twice, twice_cons, command_pieces}
 use Rattle.token.specs.Roles.{letter_of}
 use Rattle.lexer.specs.Lex.{next_token}
@@ -217,7 +217,7 @@ once_short : (d : Dialect) (l : List ℕ) → length (in_text d (escape l)) ≤ 
 once_short d l = omega (arith, text_short d (escape l), escape_short l)
 
 pub debug_short : (d : Dialect) (s : List ℕ) (u : Undefined) → length (in_text d (escape (debug s u))) ≤ 7 * length s + 340
-unfolding text_opens debug command_name
+unfolding text_opens debug command_name command_text
 debug_short d s Undefined.EOF = omega (arith, once_short d (bytes "EOF"))
 debug_short d s Undefined.End = omega (arith, once_short d (bytes "End"))
 debug_short d s Undefined.Right = omega (arith, once_short d (bytes "Right"))
@@ -226,7 +226,7 @@ debug_short d s Undefined.Underscore = omega (arith, once_short d (bytes "Unders
 debug_short d s Undefined.Circumflex = omega (arith, once_short d (bytes "Circumflex"))
 debug_short d s (Undefined.Command a e) =
     let name = command_name s a e in
-    rw (command_pieces d s a e)
+    rw (command_pieces d (part a e s))
     (simp length-append (omega (arith, escape_short (bytes "Command(\""), twice_short d name, nul_short (part a e s), part_short s a e, escape_short (bytes "\")"))))
 
 -- a leaf, of which the longest is the Debug text, escaped twice

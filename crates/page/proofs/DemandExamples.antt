@@ -5,6 +5,7 @@ use mathlib.Core.List.{List, [], ◌∷◌, ◌++◌}
 use Prim.Native.Nat.{ℕ}
 use Prim.Native.String.{String}
 use lib.ListN.{length, replicate}
+use Rattle.std.specs.Prelude.{Ok}
 use Rattle.text.specs.Text.{bytes}
 use Rattle.error.specs.declared.Refusal.{Refusal}
 use Rattle.latex2mathml.specs.declared.Manner.{Manner}
@@ -12,7 +13,7 @@ use Rattle.latex2mathml.specs.Manner.{old, strict}
 use Rattle.latex2mathml.specs.Outcome.{Outcome, accepted, refused}
 use Rattle.latex2mathml.specs.Written.{over}
 use Rattle.latex2mathml.specs.Replace.{replacement}
-use Rattle.page.specs.declared.PageAnswer.{PageAnswer}
+use Rattle.page.specs.declared.Totals.{Totals}
 use Rattle.page.specs.Page.{page, output_of}
 use Rattle.page.specs.Words.{Run, output, paragraph, break, prose, formula, DifferInParagraph, DifferInBody}
 use Rattle.page.specs.Demand.{AllButOne, TwoRuns}
@@ -35,6 +36,10 @@ there manner p = replacement manner (bytes p) 61440 65536
 unfoldable letter : String → List ℕ
 letter c = bytes "<math xmlns=\"http://www.w3.org/1998/Math/MathML\" display=\"inline\"><mi>" ++ bytes c ++ bytes "</mi></math>"
 
+-- the totals of a page
+abbrev totals : ℕ → ℕ → ℕ → Totals
+totals n count few = record { length = n; paragraphs = count; left = few }
+
 -- ---- whatever a paragraph holds, in the old dialect: the first one, of a page whose lines end with CR LF, is refused in one run and replaced in the other
 
 abbrev slipped : Run
@@ -43,7 +48,7 @@ slipped = on old "$a\r\n\r\n$x$"
 abbrev mended : Run
 mended = on old "$a$\r\n\r\n$x$"
 
-both_accepted : (slipped.answer ≡ PageAnswer.Accepted 89 2 1) × (mended.answer ≡ PageAnswer.Accepted 170 2 0)
+both_accepted : (slipped.answer ≡ Ok (totals 89 2 1)) × (mended.answer ≡ Ok (totals 170 2 0))
 unfolding page_opens
 both_accepted = (refl, refl)
 
@@ -57,7 +62,7 @@ refused_and_replaced = (refl, refl)
 
 shares : TwoRuns old slipped.document mended.document 61440 65536 one_paragraph_differs (output slipped) (output mended)
 shares =
-    demand3.two_runs slipped mended (89, 2, 1, both_accepted.0) (170, 2, 0, both_accepted.1) (record { manner = refl; store = refl; work = refl; room = refl })
+    demand3.two_runs slipped mended (totals 89 2 1, both_accepted.0) (totals 170 2 0, both_accepted.1) (record { manner = refl; store = refl; work = refl; room = refl })
     one_paragraph_differs
 
 -- ---- one formula's body, in the strict dialect: the second formula of the last paragraph
@@ -74,7 +79,7 @@ lower = on strict "up\n\n$a$ to $b$"
 abbrev higher : Run
 higher = on strict "up\n\n$a$ to $c$"
 
-both_accepted_too : (lower.answer ≡ PageAnswer.Accepted 174 2 0) × (higher.answer ≡ PageAnswer.Accepted 174 2 0)
+both_accepted_too : (lower.answer ≡ Ok (totals 174 2 0)) × (higher.answer ≡ Ok (totals 174 2 0))
 unfolding page_opens
 both_accepted_too = (refl, refl)
 
@@ -97,7 +102,7 @@ both_replaced = (refl, refl)
 
 shares_too : TwoRuns strict lower.document higher.document 61440 65536 last_paragraph_differs (output lower) (output higher)
 shares_too =
-    demand3.two_runs lower higher (174, 2, 0, both_accepted_too.0) (174, 2, 0, both_accepted_too.1) (record { manner = refl; store = refl; work = refl; room = refl })
+    demand3.two_runs lower higher (totals 174 2 0, both_accepted_too.0) (totals 174 2 0, both_accepted_too.1) (record { manner = refl; store = refl; work = refl; room = refl })
     last_paragraph_differs
 
 all_but_the_markup : AllButOne strict 61440 65536 shares_too.others one_body_differs.differ (letter "a" ++ bytes " to " ++ letter "b") (letter "a" ++ bytes " to " ++ letter "c")

@@ -8,6 +8,7 @@ use lib.Dec.{ltb}
 use lib.ListN.{length, drop}
 use lib.Seq.{take_at}
 use borrow.Author.Tests.{le-ltb}
+use Rattle.std.specs.Prelude.{Ok}
 use Rattle.text.proofs.Cases.{never}
 use Rattle.error.specs.declared.Refusal.{Refusal}
 use Rattle.latex2mathml.specs.declared.Manner.{Manner}
@@ -16,7 +17,7 @@ use Rattle.latex2mathml.specs.Written.{over}
 use Rattle.latex2mathml.specs.Translate.{translate}
 use Rattle.latex2mathml.specs.Replace.{replacement, replace_outcome, replace}
 use Rattle.latex2mathml.proofs.OutcomeLaws.{by_outcome, number_range, not_refused}
-use Rattle.page.specs.declared.PageAnswer.{PageAnswer}
+use Rattle.page.specs.declared.Totals.{Totals}
 use Rattle.breaks.specs.Pieces.{Pieces, last, piece, pieces, paragraphs}
 use Rattle.page.specs.Page.{shown, left, shown_all, left_all, Paged, page, output_of, paragraphs_of, left_of}
 use Rattle.page.specs.Run.{answer_number, answer_length, answer_paragraphs, answer_left}
@@ -119,9 +120,9 @@ record Returns (a : Run) (count left : ℕ) : Type 0 where
   pub counted : count ≡ paragraphs (pieces a.document)
   pub kept : left ≡ left_all a.manner a.store a.work (pieces a.document)
 
-returns : (a : Run) (n count left : ℕ) → a.answer ≡ PageAnswer.Accepted n count left → Returns a count left
+returns : (a : Run) (t : Totals) → a.answer ≡ Ok t → Returns a t.paragraphs t.left
 unfolding output answer_number answer_length answer_paragraphs answer_left number_of output_of paragraphs_of left_of over
-returns a n count left e =
+returns a t e =
     by_outcome (page a.manner a.document a.store a.work (length a.entry))
     (λ p is.
     let h = accepts a.manner a.document a.store a.work (length a.entry) p is in
@@ -130,7 +131,7 @@ returns a n count left e =
     let number = rw (e, is) at a.promise.paragraphs in
     let few = rw (e, is) at a.promise.left in
     record {
-      bytes = rw (e, after) (take_at p.output (drop (length p.output) a.entry) n (sym long) ∙ h.bytes);
+      bytes = rw (e, after) (take_at p.output (drop (length p.output) a.entry) t.length (sym long) ∙ h.bytes);
       counted = number ∙ h.counted;
       kept = few ∙ h.kept;
     })
@@ -142,11 +143,10 @@ the_cut document = record { joins = cut_joins document; right = cut_right docume
 the_runs : (p : List ℕ) → TheRuns p
 the_runs p = record { joins = joins p; right = cut_apart p; only = λ rs e right. sym (only_cut rs right) ∙ ap dollar_runs e }
 
-pub one_run_lem : (a : Run) (n count left : ℕ) → a.answer ≡ PageAnswer.Accepted n count left
-    → OneRun a.manner a.document a.store a.work (output a) count left
+pub one_run_lem : (a : Run) (t : Totals) → a.answer ≡ Ok t → OneRun a.manner a.document a.store a.work (output a) t.paragraphs t.left
 unfolding in_order
-one_run_lem a n count left e =
-    let h = returns a n count left e in
+one_run_lem a t e =
+    let h = returns a t e in
     let all = all_came a.manner a.store a.work (pieces a.document) in
     record {
       cut = the_cut a.document;
@@ -215,10 +215,10 @@ all_but_one manner store work m n others {u = u} {v = v} inside own other =
 
 two_runs_lem : (a b : Run) → NotRefused a → NotRefused b → Beside a b → {p q : List ℕ} (d : DifferInParagraph a.document b.document p q)
     → TwoRuns a.manner a.document b.document a.store a.work d (output a) (output b)
-two_runs_lem a b (n, count, few, e) (k, number, kept, f) beside {p} {q} d =
+two_runs_lem a b (t, e) (u, f) beside {p} {q} d =
     let one = one_paragraph a.manner a.store a.work in
-    let first = (one_run_lem a n count few e).made in
-    let second = equally_lent (in_order b.document) (output b) beside.manner beside.store beside.work (one_run_lem b k number kept f).made in
+    let first = (one_run_lem a t e).made in
+    let second = equally_lent (in_order b.document) (output b) beside.manner beside.store beside.work (one_run_lem b u f).made in
     let all = shared one written d first second in
     record {
       others = all;

@@ -1,12 +1,14 @@
 -- A page drafted paragraph by paragraph.
 -- Assumes nothing.
-use mathlib.Core.Path.{◌≡◌, refl, sym, ◌∙◌, ap}
+use mathlib.Core.Path.{◌≡◌, sym, ◌∙◌, ap}
+use mathlib.Core.Bool.{Bool, false}
 use mathlib.Core.List.{List, [], ◌∷◌, ◌++◌, append_assoc}
 use Prim.Native.Nat.{ℕ, ◌+◌, ◌*◌, ◌≤◌, ◌<◌}
 use native.Mathlib.Numerals.{add-one}
 use native.Mathlib.Omega.{arith}
 use lib.ListN.{length, take, drop, get_or, length-append}
 use lib.Seq.{take-suc-set, get_or-set_same, append_snoc}
+use Rattle.std.specs.Int.{from_bool}
 use Rattle.text.specs.Text.{part}
 use Rattle.text.proofs.PartLaws.{part_length}
 use Rattle.latex2mathml.specs.declared.Manner.{Manner}
@@ -15,13 +17,13 @@ use Rattle.latex2mathml.specs.Laid.{Laid, growth}
 use Rattle.breaks.specs.Pieces.{piece, pieces, paragraphs}
 use Rattle.breaks.specs.Breaks.{two_line_ends, no_line_end}
 use Rattle.page.specs.Page.{shown, left, shown_all, left_all}
-use Rattle.page.specs.Marks.{marks, Drafted, Totalled}
+use Rattle.page.specs.Marks.{is_left, marks, Drafted, Totalled}
 use Rattle.breaks.proofs.PieceLaws.{pieces_last, pieces_more}
-use Rattle.page.proofs.ParagraphLaws.{left_most, laid_next}
+use Rattle.page.proofs.ParagraphLaws.{left_most, mark_counts, laid_next}
 
 -- of the document s the bytes before `from` are drafted: k paragraphs with the breaks behind them, which take `at` bytes of the draft d if they
 -- fit there, `refused` of them left as typed, with their marks in m
-pub record Drafting (manner : Manner) (s : List ℕ) (store work from at k refused : ℕ) (d m : List ℕ) : Type 0 where
+pub record Drafting (manner : Manner) (s : List ℕ) (store work from at k refused : ℕ) (d : List ℕ) (m : List Bool) : Type 0 where
   pub inside : from ≤ length s
   pub few : 2 * k ≤ from
   pub fewer : refused ≤ k
@@ -34,32 +36,20 @@ pub record Drafting (manner : Manner) (s : List ℕ) (store work from at k refus
   pub kept : left_all manner store work (pieces s) ≡ refused + left_all manner store work (pieces (drop from s))
   pub marked : marks manner store work (pieces s) ≡ take k m ++ marks manner store work (pieces (drop from s))
 
-pub drafting_none : (manner : Manner) (s : List ℕ) (store work : ℕ) (d m : List ℕ) → Drafting manner s store work 0 0 0 0 d m
-drafting_none manner s store work d m = record {
-  inside = omega arith;
-  few = omega arith;
-  fewer = omega arith;
-  most = omega arith;
-  done = [];
-  whole = refl;
-  size = refl;
-  front = λ fits. refl;
-  counted = omega arith;
-  kept = omega arith;
-  marked = refl;
-}
-
 regrouped : (a b c l : List ℕ) → a ++ (b ++ c ++ l) ≡ a ++ b ++ c ++ l
 regrouped a b c l = simp append_assoc
 
-module _ {manner : Manner} {s : List ℕ} {store work from at k refused : ℕ} {d d' m m' : List ℕ} (h : Drafting manner s store work from at k refused d m) (e n : ℕ)
+module _ {manner : Manner} {s : List ℕ} {store work from at k refused : ℕ} {d d' : List ℕ} {m m' : List Bool} (h : Drafting manner s store work from at k refused d m) (e n : ℕ)
     (first : e ≡ next_place two_line_ends from (drop from s)) (room : k < length m) (p : Drafted manner (part from e s) store work d d' at m m' k n) where
   -- the mark of the paragraph that is drafted next stands behind those before it
-  mark_is : get_or m' k 0 ≡ left manner store work (part from e s)
-  mark_is = rw p.mark (get_or-set_same m k (left manner store work (part from e s)) 0 room)
+  mark_is : get_or m' k false ≡ is_left manner store work (part from e s)
+  mark_is = rw p.mark (get_or-set_same m k (is_left manner store work (part from e s)) false room)
 
-  marks_are : take (k + 1) m' ≡ take k m ++ left manner store work (part from e s) ∷ []
-  marks_are = rw (p.mark, add-one) (take-suc-set m k (left manner store work (part from e s)) room)
+  mark_counted : from_bool (get_or m' k false) ≡ left manner store work (part from e s)
+  mark_counted = rw mark_is (mark_counts manner (part from e s) store work)
+
+  marks_are : take (k + 1) m' ≡ take k m ++ is_left manner store work (part from e s) ∷ []
+  marks_are = rw (p.mark, add-one) (take-suc-set m k (is_left manner store work (part from e s)) room)
 
   -- the paragraph stands behind what is done
   front_next : n ≤ length d → take n d' ≡ h.done ++ shown manner store work (part from e s)
@@ -74,7 +64,7 @@ module _ {manner : Manner} {s : List ℕ} {store work from at k refused : ℕ} {
       let both = length-append h.done (shown manner store work (part from e s)) in
       omega arith
 
-  pub drafting_last : e ≡ length s → length d' ≡ length d → Totalled manner s store work d' m' (record { length = n; paragraphs = k + 1; left = refused + get_or m' k 0 })
+  pub drafting_last : e ≡ length s → length d' ≡ length d → Totalled manner s store work d' m' (record { length = n; paragraphs = k + 1; left = refused + from_bool (get_or m' k false) })
   unfolding shown_all paragraphs left_all marks
   drafting_last end same =
       let are = pieces_last s from e h.inside first end in
@@ -84,7 +74,7 @@ module _ {manner : Manner} {s : List ℕ} {store work from at k refused : ℕ} {
         long = size_next ∙ sym (ap length whole);
         front = λ fits. front_next (omega arith) ∙ sym whole;
         counted = sym counted;
-        kept = sym (h.kept ∙ rw (are, mark_is));
+        kept = sym (h.kept ∙ rw (are, mark_counted));
         marked = rw counted (marks_are ∙ sym (h.marked ∙ rw are));
       }
 
@@ -103,7 +93,7 @@ module _ {manner : Manner} {s : List ℕ} {store work from at k refused : ℕ} {
         omega arith
 
     pub drafting_more : (d'' : List ℕ) (at' : ℕ) → at' ≡ n + length (part e b s) → Laid d' d'' n (part e b s) → length d' ≡ length d → length d'' ≡ length d'
-        → Drafting manner s store work b at' (k + 1) (refused + get_or m' k 0) d'' m'
+        → Drafting manner s store work b at' (k + 1) (refused + from_bool (get_or m' k false)) d'' m'
     unfolding shown_all paragraphs left_all marks
     drafting_more d'' at' place laid same same' =
         let rest = pieces (drop b s) in
@@ -112,13 +102,13 @@ module _ {manner : Manner} {s : List ℕ} {store work from at k refused : ℕ} {
         record {
           inside = inside;
           few = omega (arith, h.few);
-          fewer = omega (arith, h.fewer, mark_is, left_most manner (part from e s) store work);
+          fewer = omega (arith, h.fewer, mark_counted, left_most manner (part from e s) store work);
           most = omega arith;
           done = (h.done ++ shown manner store work (part from e s)) ++ part e b s;
           whole = h.whole ∙ rw are.1 (regrouped h.done (shown manner store work (part from e s)) (part e b s) (shown_all manner store work rest));
           size = place ∙ rw size_next (sym (length-append (h.done ++ shown manner store work (part from e s)) (part e b s)));
           front = λ fits. laid_next d' d'' (part e b s) n at' place (omega arith) laid ∙ rw (front_next (omega arith));
           counted = h.counted ∙ rw are.1 (omega arith);
-          kept = h.kept ∙ rw (are.1, mark_is) (omega arith);
-          marked = h.marked ∙ rw (are.1, marks_are, append_snoc (take k m) (left manner store work (part from e s)) (marks manner store work rest));
+          kept = h.kept ∙ rw (are.1, mark_counted) (omega arith);
+          marked = h.marked ∙ rw (are.1, marks_are, append_snoc (take k m) (is_left manner store work (part from e s)) (marks manner store work rest));
         }

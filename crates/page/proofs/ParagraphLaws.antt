@@ -1,23 +1,23 @@
 -- A paragraph as it comes out, by what the replacement gives for it.
 -- Assumes nothing.
-use mathlib.Core.Path.{◌≡◌, refl, sym, ◌∙◌}
-use mathlib.Core.Bool.{true}
+use mathlib.Core.Path.{◌≡◌, sym, ◌∙◌}
+use mathlib.Core.Bool.{Bool, true, false}
 use mathlib.Core.List.{List, ◌++◌}
 use Prim.Native.Nat.{ℕ, ◌+◌, ◌*◌, ◌≤◌}
 use native.Mathlib.Omega.{arith}
 use lib.ListN.{length, take, drop, set, length-append}
 use lib.Seq.{take_at, length-take-le}
-use Rattle.text.specs.Put.{put, Room, Puts}
+use Rattle.std.specs.Int.{from_bool}
+use Rattle.text.specs.Put.{put, RoomAt, PutsAt}
+use Rattle.text.proofs.Cases.{never}
 use Rattle.error.specs.declared.Refusal.{Refusal}
 use Rattle.latex2mathml.specs.declared.Manner.{Manner}
-use Rattle.latex2mathml.specs.declared.Answer.{Answer}
 use Rattle.latex2mathml.specs.Outcome.{accepted, refused}
 use Rattle.latex2mathml.specs.Replace.{replacement}
-use Rattle.latex2mathml.specs.Laid.{Laid, Lays, Fits, WrittenThere, growth, AtMost}
-use Rattle.latex2mathml.specs.Written.{answer_length}
+use Rattle.latex2mathml.specs.Laid.{Laid, LaidThere, Fits, WrittenThere, growth}
 use Rattle.latex2mathml.proofs.OutcomeLaws.{by_outcome}
 use Rattle.page.specs.Page.{shown, left}
-use Rattle.page.specs.Marks.{mark_of, Drafted}
+use Rattle.page.specs.Marks.{is_left, Drafted}
 
 -- what is laid stands behind what lies before its place
 pub laid_next : (d d' bs : List ℕ) (at n : ℕ) → n ≡ at + length bs → n ≤ length d → Laid d d' at bs → take n d' ≡ take at d ++ bs
@@ -43,51 +43,62 @@ module _ (manner : Manner) (p : List ℕ) (store work : ℕ) where
   unfolding left
   left_typed r e = rw (left, e)
 
+  -- its mark
+  pub mark_replaced : (text : List ℕ) → replacement manner p store work ≡ accepted text → is_left manner store work p ≡ false
+  unfolding is_left
+  mark_replaced text e = rw (is_left, e)
+
+  pub mark_typed : (r : Refusal) → replacement manner p store work ≡ refused r → is_left manner store work p ≡ true
+  unfolding is_left
+  mark_typed r e = rw (is_left, e)
+
+  -- .. counts it
+  pub mark_counts : from_bool (is_left manner store work p) ≡ left manner store work p
+  mark_counts =
+      by_outcome (replacement manner p store work)
+      (λ text e. rw (mark_replaced text e, left_replaced text e))
+      (λ r e. rw (mark_typed r e, left_typed r e))
+
   pub left_most : left manner store work p ≤ 1
   left_most =
       by_outcome (replacement manner p store work) (λ text e. omega (arith, left_replaced text e)) (λ r e. omega (arith, left_typed r e))
 
   -- what is drafted of it
-  module _ (d d' m : List ℕ) (at k : ℕ) where
-    pub drafted_replaced : (a : Answer) (x n : ℕ) → x ≡ mark_of a → x ≡ 0 → n ≡ answer_length a → Lays (replacement manner p store work) d d' at a
-        → AtMost (at + length p * (growth * growth)) a → Drafted manner p store work d d' at m (set m k x) k n
-    unfolding mark_of answer_length
-    drafted_replaced (Answer.Refused r) x n is none end h most = absurd (omega arith)
-    drafted_replaced (Answer.Accepted z) x n is none end h most =
+  module _ (d d' : List ℕ) (m : List Bool) (at k : ℕ) where
+    pub drafted_replaced : (x : Bool) (z : ℕ) → x ≡ false → LaidThere (replacement manner p store work) d d' at z → z ≤ at + length p * (growth * growth)
+        → Drafted manner p store work d d' at m (set m k x) k z
+    drafted_replaced x z is h most =
         let e = shown_replaced h.text h.is in
-        let place = h.place in
-        rw (none, end)
+        rw is
         (record {
           place = rw e h.place;
           most = most;
           front = λ fits. rw e (laid_next d d' h.text at z h.place fits h.laid);
-          mark = rw (left_replaced h.text h.is);
+          mark = rw (mark_replaced h.text h.is);
         })
 
-    pub drafted_typed : (a : Answer) (x n : ℕ) (d₁ : List ℕ) → x ≡ mark_of a → (x ≡ 0 → ⊥) → Lays (replacement manner p store work) d d₁ at a → length d₁ ≡ length d
+    pub drafted_typed : (x : Bool) (r : Refusal) (n : ℕ) (d₁ : List ℕ) → x ≡ true → replacement manner p store work ≡ refused r → take at d₁ ≡ take at d → length d₁ ≡ length d
         → n ≡ at + length p → Laid d₁ d' at p → Drafted manner p store work d d' at m (set m k x) k n
-    unfolding mark_of
-    drafted_typed (Answer.Accepted z) x n d₁ is some h same place laid = absurd (some is)
-    drafted_typed (Answer.Refused r) x n d₁ is some h same place laid =
-        let e = shown_typed r h.0 in
+    drafted_typed x r n d₁ is e kept same place laid =
+        let shows = shown_typed r e in
         rw is
         (record {
-          place = rw e place;
+          place = rw shows place;
           most = omega arith;
-          front = λ fits. rw (e, ← h.1) (laid_next d₁ d' p at n place (omega arith) laid);
-          mark = rw (left_typed r h.0);
+          front = λ fits. rw (shows, ← kept) (laid_next d₁ d' p at n place (omega arith) laid);
+          mark = rw (mark_typed r e);
         })
 
   -- what is written of it
-  pub fits_replaced : (o : List ℕ) (at : ℕ) → left manner store work p ≡ 0 → Room true o at (length (shown manner store work p)) → Fits (replacement manner p store work) o at
+  pub fits_replaced : (o : List ℕ) (at : ℕ) → is_left manner store work p ≡ false → RoomAt o at (length (shown manner store work p)) → Fits (replacement manner p store work) o at
   fits_replaced o at none room =
       by_outcome (replacement manner p store work)
-      (λ text e. record { text = text; is = e; inside = rw (shown_replaced text e) at (room.inside refl) })
-      (λ r e. absurd (omega (arith, left_typed r e)))
+      (λ text e. record { text = text; is = e; inside = rw (shown_replaced text e) at room.inside })
+      (λ r e. let typed = mark_typed r e in never cc)
 
-  pub puts_replaced : (o o' : List ℕ) (at r : ℕ) → WrittenThere (replacement manner p store work) o o' at r → Puts true o o' at (shown manner store work p) r
+  pub puts_replaced : (o o' : List ℕ) (at r : ℕ) → WrittenThere (replacement manner p store work) o o' at r → PutsAt o o' at (shown manner store work p) r
   puts_replaced o o' at r h = rw (shown_replaced h.text h.is) h.puts
 
-  pub shown_left : (left manner store work p ≡ 0 → ⊥) → shown manner store work p ≡ p
+  pub shown_left : is_left manner store work p ≡ true → shown manner store work p ≡ p
   shown_left some =
-      by_outcome (replacement manner p store work) (λ text e. absurd (some (left_replaced text e))) (λ r e. shown_typed r e)
+      by_outcome (replacement manner p store work) (λ text e. let replaced = mark_replaced text e in never cc) (λ r e. shown_typed r e)

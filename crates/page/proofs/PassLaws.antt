@@ -1,7 +1,6 @@
 -- A pass over a text whose bodies are known: each body comes out translated, and all else as it stands.
 -- Assumes nothing.
 use mathlib.Core.Path.{◌≡◌, refl, sym, ◌∙◌}
-use mathlib.Core.Bool.{Bool}
 use mathlib.Core.List.{List, [], ◌∷◌, ◌++◌, flatten, append_assoc}
 use Prim.Native.Nat.{ℕ, ◌+◌, ◌-◌}
 use native.Mathlib.Omega.{arith}
@@ -12,10 +11,11 @@ use Rattle.text.proofs.Cases.{never}
 use Rattle.attribute.specs.declared.DisplayStyle.{DisplayStyle}
 use Rattle.latex2mathml.specs.declared.Manner.{Manner}
 use Rattle.latex2mathml.specs.Outcome.{Outcome, accepted, refused, ◌>>=◌}
+use Rattle.dollars.specs.declared.Delimiter.{Delimiter}
 use Rattle.dollars.specs.Places.{places}
 use Rattle.latex2mathml.specs.Replace.{translate_body, substitute}
 use Rattle.dollars.specs.Dollars.{mark, width}
-use Rattle.latex2mathml.specs.Laid.{passed}
+use Rattle.latex2mathml.specs.Laid.{display_of, passed}
 use Rattle.page.specs.Demand.{Each, joined, Made}
 use Rattle.page.specs.Words.{dollars}
 
@@ -32,19 +32,19 @@ pub data Item : Type 0 where
   still : List ℕ → Item
   body : List ℕ → Item
 
-module _ (double : Bool) where
+module _ (delimiter : Delimiter) where
   abbrev pub marked : List Item → List ℕ
   marked [] = []
   marked (still x ∷ rest) = x ++ marked rest
-  marked (body b ∷ rest) = dollars (width double) ++ (b ++ (dollars (width double) ++ marked rest))
+  marked (body b ∷ rest) = dollars (width delimiter) ++ (b ++ (dollars (width delimiter) ++ marked rest))
 
   -- the marks of the text are those around its bodies
   abbrev pub Finds : List Item → Type 0
   Finds [] = Unit {0}
-  Finds (still x ∷ rest) = ((at : ℕ) → places (mark double) at (x ++ marked rest) ≡ places (mark double) (at + length x) (marked rest)) × Finds rest
+  Finds (still x ∷ rest) = ((at : ℕ) → places (mark delimiter) at (x ++ marked rest) ≡ places (mark delimiter) (at + length x) (marked rest)) × Finds rest
   Finds (body b ∷ rest) =
-      ((at : ℕ) → places (mark double) at (marked (body b ∷ rest))
-      ≡ at ∷ (at + width double + length b) ∷ places (mark double) (at + width double + length b + width double) (marked rest))
+      ((at : ℕ) → places (mark delimiter) at (marked (body b ∷ rest))
+      ≡ at ∷ (at + width delimiter + length b) ∷ places (mark delimiter) (at + width delimiter + length b + width delimiter) (marked rest))
       × Finds rest
 
 -- ---- the pass
@@ -88,9 +88,9 @@ module _ (manner : Manner) (store : ℕ) (display : DisplayStyle) where
   unfolding flatten
   body_rest t r = record { outs = t.markup ∷ r.outs; each = (t.is, r.each); whole = rw (← r.whole) t.whole }
 
-  module _ (double : Bool) (s : List ℕ) where
+  module _ (delimiter : Delimiter) (s : List ℕ) where
     abbrev w : ℕ
-    w = width double
+    w = width delimiter
 
     -- from one pair of marks to what is behind it
     turn : (from a e : ℕ) (marks done b text : List ℕ) → part (a + w) e s ≡ b → part from a s ≡ done
@@ -101,9 +101,9 @@ module _ (manner : Manner) (store : ℕ) (display : DisplayStyle) where
         two_steps (translate_body manner store display b) (substitute manner store display w s (e + w) marks) done text (rw (own, front) at is)
 
     -- from is the place of what is done, at the place behind it
-    rest : (items : List Item) (before done text : List ℕ) (from at : ℕ) → Finds double items
-        → s ≡ before ++ (done ++ marked double items) → from ≡ length before → at ≡ from + length done
-        → substitute manner store display w s from (places (mark double) at (marked double items)) ≡ accepted text → Rest done items text
+    rest : (items : List Item) (before done text : List ℕ) (from at : ℕ) → Finds delimiter items
+        → s ≡ before ++ (done ++ marked delimiter items) → from ≡ length before → at ≡ from + length done
+        → substitute manner store display w s from (places (mark delimiter) at (marked delimiter items)) ≡ accepted text → Rest done items text
     unfolding substitute places flatten
     rest [] before done text from at h cut first last is = record {
       outs = [];
@@ -118,13 +118,13 @@ module _ (manner : Manner) (store : ℕ) (display : DisplayStyle) where
         let d = dollars w in
         let n = length-replicate {A = ℕ} w 36 in
         let e = at + w + length b in
-        let own = part_at s (before ++ (done ++ d)) b (d ++ marked double items) (at + w) e (cut ∙ simp append_assoc) (simp length-append (omega arith)) refl in
-        let t = turn from at e (places (mark double) (e + w) (marked double items)) done b text own (part_at s before done _ from at cut first last) (rw (h.0 at) at is) in
+        let own = part_at s (before ++ (done ++ d)) b (d ++ marked delimiter items) (at + w) e (cut ∙ simp append_assoc) (simp length-append (omega arith)) refl in
+        let t = turn from at e (places (mark delimiter) (e + w) (marked delimiter items)) done b text own (part_at s before done _ from at cut first last) (rw (h.0 at) at is) in
         body_rest t
         (rest items (before ++ (done ++ (d ++ (b ++ d)))) [] t.behind (e + w) (e + w) h.1 (cut ∙ simp append_assoc) (simp length-append (omega arith)) (omega arith) t.next)
 
-  pub passed_made : (double : Bool) (items : List Item) (text : List ℕ) → Finds double items → passed manner store display double (marked double items) ≡ accepted text
-      → Made Becomes (λ t. t) items text
-  passed_made double items text h is =
-      let r = rest double (marked double items) items [] [] text 0 0 h refl refl refl is in
-      record { outs = r.outs; each = r.each; whole = r.whole }
+pub passed_made : (manner : Manner) (store : ℕ) (delimiter : Delimiter) (items : List Item) (text : List ℕ) → Finds delimiter items
+    → passed manner store delimiter (marked delimiter items) ≡ accepted text → Made (Becomes manner store (display_of delimiter)) (λ t. t) items text
+passed_made manner store delimiter items text h is =
+    let r = rest manner store (display_of delimiter) delimiter (marked delimiter items) items [] [] text 0 0 h refl refl refl is in
+    record { outs = r.outs; each = r.each; whole = r.whole }

@@ -7,9 +7,10 @@ use Prim.Native.Nat.{ℕ, ◌≤◌, ◌<◌}
 use native.Mathlib.Omega.{arith}
 use lib.ListN.{length, length-append}
 use borrow.Author.Tests.{lt-ltb, le-ltb, not-true}
+use Rattle.std.specs.Prelude.{Ok, Err}
 use Rattle.text.specs.Any.{any}
 use Rattle.text.specs.Plain.{plain}
-use Rattle.text.specs.Put.{Puts}
+use Rattle.text.specs.Put.{PutsAt}
 use Rattle.text.proofs.AnyLaws.{none_sides}
 use Rattle.text.proofs.PlainLaws.{plain_append}
 use Rattle.text.proofs.PutLaws.{puts_all}
@@ -19,7 +20,6 @@ use Rattle.latex2mathml.specs.Outcome.{accepted, ◌>>=◌, refuse, document_lim
 use Rattle.dollars.specs.Dollars.{unusual, is_prose}
 use Rattle.latex2mathml.specs.Written.{over}
 use Rattle.latex2mathml.proofs.ProseLaws.{prose_typed}
-use Rattle.page.specs.declared.PageAnswer.{PageAnswer}
 use Rattle.breaks.specs.Pieces.{Pieces, last, piece, pieces, paragraphs}
 use Rattle.breaks.specs.Cut.{typed_all}
 use Rattle.page.specs.Page.{shown_all, left_all, page, output_of, paragraphs_of, left_of}
@@ -61,7 +61,7 @@ module _ (d : List ℕ) (prose : is_prose d ≡ true) (short : length d ≤ 3276
       let t = typed manner store work (pieces d) (rw whole prose) (rw whole short) (rw whole fits) in
       (t.0 ∙ whole, t.1)
 
-  pub prose_full : length o < length d → Pages manner d store work (PageAnswer.Refused Refusal.OutputTooSmall) o o
+  pub prose_full : length o < length d → Pages manner d store work (Err Refusal.OutputTooSmall) o o
   unfolding page document_limit ◌>>=◌ refuse
   prose_full l =
       pages_refused manner d store work Refusal.OutputTooSmall o (rw (page, le-ltb 32768 (length d) short, as_typed.0, lt-ltb (length o) (length d) l))
@@ -71,8 +71,8 @@ module _ (d : List ℕ) (prose : is_prose d ≡ true) (short : length d ≤ 3276
   unfolding page document_limit ◌>>=◌ refuse
   accepts l = rw (page, le-ltb 32768 (length d) short, as_typed.0, as_typed.1, le-ltb (length o) (length d) l)
 
-  pub prose_paged : length d ≤ length o → (k : ℕ) → k ≡ paragraphs (pieces d) → {o' : List ℕ} {n : ℕ} → Puts true o o' 0 d n
-      → Pages manner d store work (PageAnswer.Accepted n k 0) o o'
+  pub prose_paged : length d ≤ length o → (k : ℕ) → k ≡ paragraphs (pieces d) → {o' : List ℕ} {n : ℕ} → PutsAt o o' 0 d n
+      → Pages manner d store work (Ok (record { length = n; paragraphs = k; left = 0 })) o o'
   unfolding answer_number answer_length answer_paragraphs answer_left number_of output_of paragraphs_of left_of over
   prose_paged l k counted {o'} {n} p =
       let place = p.place in

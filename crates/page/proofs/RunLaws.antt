@@ -4,17 +4,19 @@ use mathlib.Core.Path.{◌≡◌, refl}
 use mathlib.Core.List.{List}
 use Prim.Native.Nat.{ℕ}
 use lib.ListN.{length}
+use Rattle.std.specs.Prelude.{Result, Ok, Err}
+use Rattle.error.specs.declared.Refusal.{Refusal}
 use Rattle.latex2mathml.specs.declared.Manner.{Manner}
 use Rattle.latex2mathml.specs.Outcome.{Outcome, accepted, refused, number_of}
 use Rattle.latex2mathml.specs.Written.{over}
-use Rattle.page.specs.declared.PageAnswer.{PageAnswer}
+use Rattle.page.specs.declared.Totals.{Totals}
 use Rattle.page.specs.Page.{Paged, page, output_of, paragraphs_of, left_of}
 use Rattle.page.specs.Run.{answer_number, answer_length, answer_paragraphs, answer_left}
 use Rattle.page.specs.Words.{Run}
 
-abbrev pub answering : Outcome Paged → PageAnswer
-answering (accepted p) = PageAnswer.Accepted (length p.output) p.paragraphs p.left
-answering (refused r) = PageAnswer.Refused r
+abbrev pub answering : Outcome Paged → Result Totals Refusal
+answering (accepted p) = Ok (record { length = length p.output; paragraphs = p.paragraphs; left = p.left })
+answering (refused r) = Err r
 
 pub says_number : (want : Outcome Paged) → answer_number (answering want) ≡ number_of want
 unfolding answer_number number_of

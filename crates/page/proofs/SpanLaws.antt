@@ -1,7 +1,7 @@
 -- A tidy paragraph, whose runs are of one or two dollars, in spans.
 -- Assumes nothing.
 use mathlib.Core.Path.{◌≡◌, refl}
-use mathlib.Core.Bool.{Bool, true, false, ◌&&◌, ◌||◌, false≢true, and-eq-true_iff}
+use mathlib.Core.Bool.{true, false, ◌&&◌, ◌||◌, false≢true, and-eq-true_iff}
 use mathlib.Core.List.{List, [], ◌∷◌, ◌++◌, map, append-nil}
 use Prim.Native.Nat.{ℕ, zero, suc, ◌≤◌}
 use native.Mathlib.Omega.{arith}
@@ -13,6 +13,8 @@ use Rattle.text.specs.Plain.{plain}
 use Rattle.text.proofs.Cases.{by_test}
 use Rattle.text.proofs.AnyLaws.{none_sides}
 use Rattle.text.proofs.SplitLaws.{both_sides}
+use Rattle.dollars.specs.declared.Delimiter.{Delimiter}
+use Rattle.dollars.specs.declared.Delimiter.TheVariants.{Single, Double}
 use Rattle.dollars.specs.Dollars.{dollar, width}
 use Rattle.page.specs.Words.{Runs, end, run, lengths, paired, Part, prose, formula, parts_of, dollars, typed_runs, Some, Behind, Apart}
 use Rattle.page.proofs.MarkLaws.{plain_first, some_first}
@@ -20,16 +22,16 @@ use Rattle.page.proofs.MarkLaws.{plain_first, some_first}
 -- prose, or a formula between runs of two dollars or of one
 pub data Span : Type 0 where
   text : List ℕ → Span
-  maths : (double : Bool) (body : List ℕ) → Span
+  maths : (delimiter : Delimiter) (body : List ℕ) → Span
 
 abbrev pub part_of : Span → Part
 part_of (text t) = prose t
-part_of (maths double b) = formula (width double) b
+part_of (maths delimiter b) = formula (width delimiter) b
 
 abbrev pub spanned : List Span → List ℕ
 spanned [] = []
 spanned (text t ∷ l) = t ++ spanned l
-spanned (maths double b ∷ l) = dollars (width double) ++ (b ++ (dollars (width double) ++ spanned l))
+spanned (maths delimiter b ∷ l) = dollars (width delimiter) ++ (b ++ (dollars (width delimiter) ++ spanned l))
 
 -- neither 2 nor 14 refuses the bytes
 abbrev pub Readable : List ℕ → Type 0
@@ -45,12 +47,12 @@ pub record Formula (b behind : List ℕ) : Type 0 where
 abbrev pub Fine : List Span → Type 0
 Fine [] = Unit {0}
 Fine (text t ∷ l) = (plain t ≡ true) × Fine l
-Fine (maths double b ∷ l) = Formula b (spanned l) × Fine l
+Fine (maths delimiter b ∷ l) = Formula b (spanned l) × Fine l
 
 -- ---- from the runs to the spans
 
-wide : (n : ℕ) → (eqb n 1 || eqb n 2) ≡ true → (double : Bool) × (n ≡ width double)
-wide n h = by_test (eqb n 1) (λ t. (false, eqb-true n 1 t)) (λ t. (true, eqb-true n 2 (rw t at h)))
+wide : (n : ℕ) → (eqb n 1 || eqb n 2) ≡ true → (delimiter : Delimiter) × (n ≡ width delimiter)
+wide n h = by_test (eqb n 1) (λ t. (Single, eqb-true n 1 t)) (λ t. (Double, eqb-true n 2 (rw t at h)))
 
 -- what stands behind a run begins with no dollar
 no_third : (rs : Runs) → Behind rs → Apart rs → dollar (typed_runs rs) ≡ false
@@ -80,11 +82,11 @@ pub record Spans (rs : Runs) : Type 0 where
 
 module _ (t b : List ℕ) (n m : ℕ) (rest : Runs) where
   -- prose and a formula before spans
-  spans_more : (r : Spans rest) → Apart (run t n (run b m rest)) → (double : Bool) → n ≡ width double → n ≡ m
+  spans_more : (r : Spans rest) → Apart (run t n (run b m rest)) → (delimiter : Delimiter) → n ≡ width delimiter → n ≡ m
       → Readable b → Spans (run t n (run b m rest))
   unfolding parts_of
-  spans_more r (bare, _, some, (bare-body, _, behind, more)) double e same readable = record {
-    spans = text t ∷ maths double b ∷ r.spans;
+  spans_more r (bare, _, some, (bare-body, _, behind, more)) delimiter e same readable = record {
+    spans = text t ∷ maths delimiter b ∷ r.spans;
     parts = rw (e, r.parts);
     typed = rw (← same, e, r.typed);
     fine = (bare, (record { bare = bare-body; some = some; readable = readable; apart = rw r.typed (no_third rest behind more) }, r.fine));
@@ -97,8 +99,8 @@ spans_of (run t n (end u)) h even readable = absurd (false≢true even)
 spans_of (run t n (run b m rest)) h even readable =
     let k = (and-eq-true_iff ((eqb n 1 || eqb n 2) && eqb n m) (paired (lengths rest))).0 even in
     let j = (and-eq-true_iff (eqb n 1 || eqb n 2) (eqb n m)).0 k.0 in
-    let double = wide n j.0 in
+    let delimiter = wide n j.0 in
     let first = (run_sides n t _ h.1 readable).1 in
     let second = run_sides m b _ h.3.1 first in
     let r = spans_of rest h.3.3 k.1 second.1 in
-    spans_more t b n m rest r h double.0 double.1 (eqb-true n m j.1) second.0
+    spans_more t b n m rest r h delimiter.0 delimiter.1 (eqb-true n m j.1) second.0

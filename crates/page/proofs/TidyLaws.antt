@@ -1,7 +1,7 @@
 -- A tidy paragraph that is replaced is its prose as typed, with each formula's body translated alone in its place.
 -- Assumes nothing.
 use mathlib.Core.Path.{◌≡◌, refl, sym, ◌∙◌, ap}
-use mathlib.Core.Bool.{Bool, true, false}
+use mathlib.Core.Bool.{true, false}
 use mathlib.Core.List.{List, [], ◌∷◌, ◌++◌, map, flatten, append_assoc}
 use Prim.Native.Nat.{ℕ, ◌≤◌}
 use native.Mathlib.Omega.{arith}
@@ -15,6 +15,8 @@ use Rattle.latex2mathml.specs.declared.Manner.{Manner}
 use Rattle.latex2mathml.specs.Outcome.{accepted, ◌>>=◌, refuse, body_limit}
 use Rattle.latex2mathml.specs.Translate.{latex_to_mathml, store_too_small, translate}
 use Rattle.latex2mathml.specs.Replace.{translate_body, replacement, replace_outcome, replace}
+use Rattle.dollars.specs.declared.Delimiter.{Delimiter}
+use Rattle.dollars.specs.declared.Delimiter.TheVariants.{Single, Double}
 use Rattle.dollars.specs.Dollars.{width}
 use Rattle.latex2mathml.specs.Laid.{passed}
 use Rattle.latex2mathml.proofs.PlainLaws.{markup_plain}
@@ -53,44 +55,44 @@ alone manner store display b m room readable fits is =
 -- ---- the text of a pass
 
 -- a formula in a pass: a body if its runs are of the pass's width
-abbrev item_of : Bool → Bool → List ℕ → Item
-item_of true true b = body b
-item_of true false b = still (dollars 1 ++ (b ++ dollars 1))
-item_of false true b = still (dollars 2 ++ (b ++ dollars 2))
-item_of false false b = body b
+abbrev item_of : Delimiter → Delimiter → List ℕ → Item
+item_of Double Double b = body b
+item_of Double Single b = still (dollars 1 ++ (b ++ dollars 1))
+item_of Single Double b = still (dollars 2 ++ (b ++ dollars 2))
+item_of Single Single b = body b
 
-abbrev item : Bool → Span → Item
-item double (text t) = still t
-item double (maths own b) = item_of double own b
+abbrev item : Delimiter → Span → Item
+item delimiter (text t) = still t
+item delimiter (maths own b) = item_of delimiter own b
 
-marked_item : (double own : Bool) (b : List ℕ) (rest : List Item)
-    → marked double (item_of double own b ∷ rest) ≡ dollars (width own) ++ (b ++ (dollars (width own) ++ marked double rest))
-marked_item true true b rest = refl
-marked_item true false b rest = simp append_assoc
-marked_item false true b rest = simp append_assoc
-marked_item false false b rest = refl
+marked_item : (delimiter own : Delimiter) (b : List ℕ) (rest : List Item)
+    → marked delimiter (item_of delimiter own b ∷ rest) ≡ dollars (width own) ++ (b ++ (dollars (width own) ++ marked delimiter rest))
+marked_item Double Double b rest = refl
+marked_item Double Single b rest = simp append_assoc
+marked_item Single Double b rest = simp append_assoc
+marked_item Single Single b rest = refl
 
-marked_items : (double : Bool) (l : List Span) → marked double (map (item double) l) ≡ spanned l
-marked_items double [] = refl
-marked_items double (text t ∷ l) = ap (λ (r : List ℕ). t ++ r) (marked_items double l)
-marked_items double (maths own b ∷ l) = marked_item double own b (map (item double) l) ∙ rw (marked_items double l)
+marked_items : (delimiter : Delimiter) (l : List Span) → marked delimiter (map (item delimiter) l) ≡ spanned l
+marked_items delimiter [] = refl
+marked_items delimiter (text t ∷ l) = ap (λ (r : List ℕ). t ++ r) (marked_items delimiter l)
+marked_items delimiter (maths own b ∷ l) = marked_item delimiter own b (map (item delimiter) l) ∙ rw (marked_items delimiter l)
 
 -- pass one finds the runs of two dollars
-finds_block : (l : List Span) → Fine l → Finds true (map (item true) l)
+finds_block : (l : List Span) → Fine l → Finds Double (map (item Double) l)
 finds_block [] h = tt
-finds_block (text t ∷ l) (h, more) = (λ at. places_plain true t _ at h, finds_block l more)
-finds_block (maths true b ∷ l) (f, more) =
-    (λ at. places_body b _ at f.bare true (λ e. (f.some, rw (marked_items true l) f.apart)), finds_block l more)
-finds_block (maths false b ∷ l) (f, more) =
-    (λ at. places_inline b _ at f.bare f.some (rw (marked_items true l) f.apart), finds_block l more)
+finds_block (text t ∷ l) (h, more) = (λ at. places_plain Double t _ at h, finds_block l more)
+finds_block (maths Double b ∷ l) (f, more) =
+    (λ at. places_body b _ at f.bare Double (λ e. (f.some, rw (marked_items Double l) f.apart)), finds_block l more)
+finds_block (maths Single b ∷ l) (f, more) =
+    (λ at. places_inline b _ at f.bare f.some (rw (marked_items Double l) f.apart), finds_block l more)
 
 -- ---- between the passes
 
 -- a span with what pass one made of it
 abbrev after_one : Span → List ℕ → Span
 after_one (text t) x = text x
-after_one (maths true b) x = text x
-after_one (maths false b) x = maths false b
+after_one (maths Double b) x = text x
+after_one (maths Single b) x = maths Single b
 
 abbrev after : List Span → List (List ℕ) → List Span
 after [] xs = []
@@ -99,10 +101,10 @@ after (s ∷ l) (x ∷ xs) = after_one s x ∷ after l xs
 
 module _ (manner : Manner) (store : ℕ) where
   abbrev Block : List Span → List (List ℕ) → Type 0
-  Block l xs = Each (Becomes manner store DisplayStyle.Block) (map (item true) l) xs
+  Block l xs = Each (Becomes manner store DisplayStyle.Block) (map (item Double) l) xs
 
   abbrev Inline : List Span → List (List ℕ) → Type 0
-  Inline l ys = Each (Becomes manner store DisplayStyle.Inline) (map (item false) l) ys
+  Inline l ys = Each (Becomes manner store DisplayStyle.Inline) (map (item Single) l) ys
 
   -- the text of pass one
   after_joined : (l : List Span) (xs : List (List ℕ)) → Block l xs → spanned (after l xs) ≡ joined (λ t. t) xs
@@ -111,8 +113,8 @@ module _ (manner : Manner) (store : ℕ) where
   after_joined [] (x ∷ xs) e = absurd e
   after_joined (s ∷ l) [] e = absurd e
   after_joined (text t ∷ l) (x ∷ xs) (e, more) = ap (λ (r : List ℕ). x ++ r) (after_joined l xs more)
-  after_joined (maths true b ∷ l) (x ∷ xs) (e, more) = ap (λ (r : List ℕ). x ++ r) (after_joined l xs more)
-  after_joined (maths false b ∷ l) (x ∷ xs) (e, more) = rw (e, after_joined l xs more) (simp append_assoc)
+  after_joined (maths Double b ∷ l) (x ∷ xs) (e, more) = ap (λ (r : List ℕ). x ++ r) (after_joined l xs more)
+  after_joined (maths Single b ∷ l) (x ∷ xs) (e, more) = rw (e, after_joined l xs more) (simp append_assoc)
 
   -- each span as both passes leave it
   shows : (l : List Span) (xs ys : List (List ℕ)) → Fine l → Block l xs → Inline (after l xs) ys → Each (Shows manner store) (map part_of l) ys
@@ -123,29 +125,29 @@ module _ (manner : Manner) (store : ℕ) where
   shows (s ∷ l) [] ys h e f = absurd e
   shows (s ∷ l) (x ∷ xs) [] h e f = absurd f
   shows (text t ∷ l) (x ∷ xs) (y ∷ ys) (h, more) (e, es) (f, fs) = (f ∙ e, shows l xs ys more es fs)
-  shows (maths true b ∷ l) (x ∷ xs) (y ∷ ys) (h, more) (e, es) (f, fs) =
+  shows (maths Double b ∷ l) (x ∷ xs) (y ∷ ys) (h, more) (e, es) (f, fs) =
       (λ room fits. alone manner store DisplayStyle.Block b y room h.readable fits (rw f e), shows l xs ys more es fs)
-  shows (maths false b ∷ l) (x ∷ xs) (y ∷ ys) (h, more) (e, es) (f, fs) =
+  shows (maths Single b ∷ l) (x ∷ xs) (y ∷ ys) (h, more) (e, es) (f, fs) =
       (λ room fits. alone manner store DisplayStyle.Inline b y room h.readable fits f, shows l xs ys more es fs)
 
   -- pass two finds those of one dollar, as pass one printed none
-  finds_inline : (l : List Span) (xs : List (List ℕ)) → Fine l → Block l xs → Finds false (map (item false) (after l xs))
+  finds_inline : (l : List Span) (xs : List (List ℕ)) → Fine l → Block l xs → Finds Single (map (item Single) (after l xs))
   finds_inline [] xs h e = tt
   finds_inline (s ∷ l) [] h e = tt
-  finds_inline (text t ∷ l) (x ∷ xs) (h, more) (e, es) = (λ at. places_plain false x _ at (rw e h), finds_inline l xs more es)
-  finds_inline (maths true b ∷ l) (x ∷ xs) (f, more) (e, es) =
+  finds_inline (text t ∷ l) (x ∷ xs) (h, more) (e, es) = (λ at. places_plain Single x _ at (rw e h), finds_inline l xs more es)
+  finds_inline (maths Double b ∷ l) (x ∷ xs) (f, more) (e, es) =
       let bare = markup_plain manner b DisplayStyle.Block x f.bare (translated manner store DisplayStyle.Block b x e).markup in
-      (λ at. places_plain false x _ at bare, finds_inline l xs more es)
-  finds_inline (maths false b ∷ l) (x ∷ xs) (f, more) (e, es) =
-      (λ at. places_body b _ at f.bare false (λ z. never cc), finds_inline l xs more es)
+      (λ at. places_plain Single x _ at bare, finds_inline l xs more es)
+  finds_inline (maths Single b ∷ l) (x ∷ xs) (f, more) (e, es) =
+      (λ at. places_body b _ at f.bare Single (λ z. never cc), finds_inline l xs more es)
 
-  spans_made : (l : List Span) (first m : List ℕ) → Fine l → passed manner store DisplayStyle.Block true (spanned l) ≡ accepted first
-      → passed manner store DisplayStyle.Inline false first ≡ accepted m → Made (Shows manner store) (λ t. t) (map part_of l) m
+  spans_made : (l : List Span) (first m : List ℕ) → Fine l → passed manner store Double (spanned l) ≡ accepted first
+      → passed manner store Single first ≡ accepted m → Made (Shows manner store) (λ t. t) (map part_of l) m
   spans_made l first m h is then =
-      let one = passed_made manner store DisplayStyle.Block true (map (item true) l) first (finds_block l h) (rw (marked_items true l) is) in
-      let same : first ≡ marked false (map (item false) (after l one.outs)) =
-      one.whole ∙ sym (marked_items false (after l one.outs) ∙ after_joined l one.outs one.each) in
-      let two = passed_made manner store DisplayStyle.Inline false (map (item false) (after l one.outs)) m (finds_inline l one.outs h one.each) (rw same at then) in
+      let one = passed_made manner store Double (map (item Double) l) first (finds_block l h) (rw (marked_items Double l) is) in
+      let same : first ≡ marked Single (map (item Single) (after l one.outs)) =
+      one.whole ∙ sym (marked_items Single (after l one.outs) ∙ after_joined l one.outs one.each) in
+      let two = passed_made manner store Single (map (item Single) (after l one.outs)) m (finds_inline l one.outs h one.each) (rw same at then) in
       record { outs = two.outs; each = shows l one.outs two.outs h one.each two.each; whole = two.whole }
 
 -- ---- the replacement

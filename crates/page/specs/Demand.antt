@@ -1,10 +1,10 @@
 -- Demand 3: the statement, about one run of the page operation and about any two.
 -- What is said of a run speaks of its document, the lent sizes and its output, so that it can be said of a call or of a program too.
 -- Assumes nothing.
-use Rattle.std.specs.Prelude.{◌≡◌, true, ℕ, length}
+use Rattle.std.specs.Prelude.{◌≡◌, true, ℕ, length, Ok}
 use mathlib.Core.List.{List, [], ◌∷◌, ◌++◌, map, flatten}
 use Rattle.latex2mathml.specs.declared.Manner.{Manner}
-use Rattle.page.specs.declared.PageAnswer.{PageAnswer}
+use Rattle.page.specs.declared.Totals.{Totals}
 use Rattle.breaks.specs.Pieces.{Pieces, pieces}
 use Rattle.breaks.specs.Cut.{typed_all, RightCut}
 use Rattle.page.specs.Words.{Run, output, Runs, dollar_runs, typed_runs, Apart, Piece, in_order, paragraph_count, ReplacedBy, written, Comes, typed_count, tidy, Part, parts, Shows, Differ, DifferInParagraph, DifferInBody}
@@ -90,11 +90,10 @@ pub record Beside (a b : Run) : Type 0 where
 
 -- a run that is not refused
 abbrev pub NotRefused : Run → Type 0
-NotRefused a = (n : ℕ) × (paragraphs : ℕ) × (left : ℕ) × (a.answer ≡ PageAnswer.Accepted n paragraphs left)
+NotRefused a = (t : Totals) × (a.answer ≡ Ok t)
 
 -- demand 3, one claim over all paragraphs of a document together and over any two runs
 pub record Demand3 : Type 0 where
-  pub one_run : (a : Run) (n paragraphs left : ℕ) → a.answer ≡ PageAnswer.Accepted n paragraphs left
-      → OneRun a.manner a.document a.store a.work (output a) paragraphs left
+  pub one_run : (a : Run) (t : Totals) → a.answer ≡ Ok t → OneRun a.manner a.document a.store a.work (output a) t.paragraphs t.left
   pub two_runs : (a b : Run) → NotRefused a → NotRefused b → Beside a b → {p q : List ℕ} (d : DifferInParagraph a.document b.document p q)
       → TwoRuns a.manner a.document b.document a.store a.work d (output a) (output b)

@@ -1,6 +1,6 @@
 -- The words of demand 3: each term of document 01's paragraph of that name.
 -- Assumes nothing.
-use Rattle.std.specs.Prelude.{◌≡◌, Bool, true, false, ◌&&◌, ◌||◌, List, [], ◌∷◌, ◌++◌, ℕ, suc, ◌≤◌, eqb, length, take, replicate}
+use Rattle.std.specs.Prelude.{◌≡◌, Bool, true, false, ◌&&◌, ◌||◌, List, [], ◌∷◌, ◌++◌, ℕ, suc, ◌≤◌, eqb, length, take, replicate, Result}
 use Prim.Native.Char.{code}
 use Rattle.text.specs.Plain.{plain}
 use Rattle.attribute.specs.declared.DisplayStyle.{DisplayStyle}
@@ -9,7 +9,7 @@ use Rattle.latex2mathml.specs.declared.Manner.{Manner}
 use Rattle.latex2mathml.specs.Outcome.{accepted, refused}
 use Rattle.latex2mathml.specs.Translate.{translate}
 use Rattle.latex2mathml.specs.Replace.{replace}
-use Rattle.page.specs.declared.PageAnswer.{PageAnswer}
+use Rattle.page.specs.declared.Totals.{Totals}
 use Rattle.breaks.specs.Pieces.{Pieces, last, piece, pieces}
 use Rattle.page.specs.Run.{answer_length, Pages}
 
@@ -23,7 +23,7 @@ pub record Run : Type 0 where
   pub store : ℕ
   pub work : ℕ
   pub entry : List ℕ
-  pub answer : PageAnswer
+  pub answer : Result Totals Refusal
   pub exit : List ℕ
   pub promise : Pages manner document store work answer entry exit
 

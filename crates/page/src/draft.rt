@@ -1,35 +1,12 @@
 // Drafting a page: how its paragraphs come out, laid one behind the other as far as there is room, and which of them stand as typed.
 ghost use Rattle.std.specs.Prelude.{◌≡◌, ◌+◌, ◌*◌, ◌^◌, ◌≤◌, ◌<◌, length};
-ghost use Rattle.token.specs.Key.{rows};
 ghost use Rattle.latex2mathml.specs.Laid.{growth};
-ghost use Rattle.latex2mathml.specs.Written.{answer_length};
-ghost use Rattle.page.specs.Marks.{mark_of, Drafted, Totalled};
+ghost use Rattle.page.specs.Marks.{Drafted, Totalled};
 
 use crate::Totals;
 use breaks::{break_end, next_break};
+use latex2mathml::Manner;
 use latex2mathml::replace::{lay, lay_replacement};
-use latex2mathml::{Answer, Manner};
-use token::table::Table;
-
-// The mark of a paragraph, by what its replacement answers.
-fn mark_of(answer: Answer) -> u8
-    ensures { result ≡ mark_of answer }
-{
-    match answer {
-        Answer::Accepted(_) => 0,
-        Answer::Refused(_) => 1,
-    }
-}
-
-// The place behind a replacement that was laid.
-fn end_of(answer: Answer) -> usize
-    ensures { result ≡ answer_length answer }
-{
-    match answer {
-        Answer::Accepted(end) => end,
-        Answer::Refused(_) => 0,
-    }
-}
 
 // Lays a paragraph at a place as it comes out, and marks at k whether it is left as typed; the answer is the place behind it.
 fn draft_paragraph(
@@ -39,27 +16,18 @@ fn draft_paragraph(
     work: &mut [u8],
     draft: &mut [u8],
     at: usize,
-    left: &mut [u8],
+    left: &mut [bool],
     k: usize,
-    table: &Table,
 ) -> usize
-    requires { (k < length left.old) × (at + length p.now * (growth * growth) < 2 ^ 63) × (table.now ≡ rows) }
+    requires { (k < length left.old) × (at + length p.now * (growth * growth) < 2 ^ 63) }
     ensures { Drafted manner p.now (length store.old) (length work.old) draft.old draft.new at left.old left.new k result }
 {
-    let answer = lay_replacement(manner, p, store, work, draft, at, table);
-    let mark = mark_of(answer);
-    left[k] = mark;
-    if mark == 0 {
-        return end_of(answer);
+    let answer = lay_replacement(manner, p, store, work, draft, at);
+    left[k] = answer.is_err();
+    match answer {
+        Ok(end) => end,
+        Err(_) => lay(p, draft, at),
     }
-    lay(p, draft, at)
-}
-
-// A byte as a number of the machine.
-fn wide(x: u8) -> usize
-    ensures { (result ≡ x) × (result < 256) }
-{
-    x as usize
 }
 
 // Drafts each paragraph in turn, with the breaks between them, and marks those that are left as typed.
@@ -69,10 +37,9 @@ pub fn draft_page(
     store: &mut [u8],
     work: &mut [u8],
     draft: &mut [u8],
-    left: &mut [u8],
-    table: &Table,
+    left: &mut [bool],
 ) -> Totals
-    requires { (length document.now ≤ 32768) × (length document.now < 2 * length left.old) × (table.now ≡ rows) }
+    requires { (length document.now ≤ 32768) × (length document.now < 2 * length left.old) }
     ensures { Totalled manner document.now (length store.old) (length work.old) draft.new left.new result }
 {
     let mut from: usize = 0;
@@ -81,18 +48,8 @@ pub fn draft_page(
     let mut refused: usize = 0;
     loop {
         let e = next_break(document, from);
-        at = draft_paragraph(
-            manner,
-            &document[from..e],
-            store,
-            work,
-            draft,
-            at,
-            left,
-            k,
-            table,
-        );
-        refused += wide(left[k]);
+        at = draft_paragraph(manner, &document[from..e], store, work, draft, at, left, k);
+        refused += usize::from(left[k]);
         k += 1;
         if e == document.len() {
             return Totals {

@@ -4,7 +4,7 @@
 mod draft;
 mod write;
 
-ghost use Rattle.std.specs.Prelude.{◌≡◌, true, ℕ, ◌*◌, ◌≤◌, ◌<◌, length};
+ghost use Rattle.std.specs.Prelude.{◌≡◌, true, ℕ, ◌*◌, ◌^◌, ◌≤◌, ◌<◌, length};
 ghost use Rattle.latex2mathml.specs.declared.Manner.{Manner};
 ghost use Rattle.dollars.specs.Dollars.{is_prose};
 ghost use Rattle.latex2mathml.specs.Written.{Free};
@@ -17,16 +17,8 @@ use dollars::is_prose;
 use error::Refusal;
 use latex2mathml::Manner;
 use text::put::put;
-use token::table::table;
 
-// What the page operation gives: the length of the output, the number of paragraphs and of those left as typed, or why it wrote nothing.
-#[derive(Clone, Copy)]
-pub enum PageAnswer {
-    Accepted(usize, usize, usize),
-    Refused(Refusal),
-}
-
-// What drafting a page gives: the length of the output, the number of paragraphs and of those left as typed.
+// What the page operation gives: the length of the output, the number of paragraphs and of those left as typed.
 #[derive(Clone, Copy)]
 pub struct Totals {
     pub length: usize,
@@ -42,51 +34,54 @@ fn page_in(
     work: &mut [u8],
     out: &mut [u8],
     draft: &mut [u8],
-    left: &mut [u8],
-) -> PageAnswer
+    left: &mut [bool],
+) -> Result<Totals, Refusal>
     requires { (length document.now ≤ 32768) × (length document.now < 2 * length left.old) }
     ensures { Pages manner document.now (length store.old) (length work.old) result out.old out.new × Free store.old store.new × Free work.old work.new }
 {
-    let commands = table();
-    let totals = draft_page(manner, document, store, work, draft, left, &commands);
+    let totals = draft_page(manner, document, store, work, draft, left);
     let n = totals.length;
     if out.len() < n {
-        return PageAnswer::Refused(Refusal::OutputTooSmall);
+        return Err(Refusal::OutputTooSmall);
     }
     if n <= draft.len() {
-        put(&draft[..n], out, 0, true);
-        return PageAnswer::Accepted(n, totals.paragraphs, totals.left);
+        put(&draft[..n], out, 0);
+        return Ok(totals);
     }
-    write_page(manner, document, store, work, out, left, &commands);
-    PageAnswer::Accepted(n, totals.paragraphs, totals.left)
+    write_page(manner, document, store, work, out, left);
+    Ok(totals)
 }
 
-// The page operation on a short document, whose draft and marks take less space to clear.
-fn short_page(
+// The page operation with DRAFT bytes for the draft and as many marks as given: fewer take less space to clear.
+fn page_within<const DRAFT: usize, const MARKS: usize>(
     manner: Manner,
     document: &[u8],
     store: &mut [u8],
     work: &mut [u8],
     out: &mut [u8],
-) -> PageAnswer
-    requires { length document.now < 2048 }
+) -> Result<Totals, Refusal>
+    requires { (length document.now ≤ 32768) × (length document.now < 2 * MARKS) × (DRAFT < 2 ^ 63) × (MARKS < 2 ^ 63) }
     ensures { Pages manner document.now (length store.old) (length work.old) result out.old out.new × Free store.old store.new × Free work.old work.new }
 {
-    let mut draft = [0u8; 16384];
-    let mut left = [0u8; 1024];
+    let mut draft = [0u8; DRAFT];
+    let mut left = [false; MARKS];
     page_in(manner, document, store, work, out, &mut draft, &mut left)
 }
 
 // The page operation on prose that the work buffer has room for: it is copied without a draft, and no paragraph is left.
-fn prose_page(document: &[u8], out: &mut [u8]) -> PageAnswer
+fn prose_page(document: &[u8], out: &mut [u8]) -> Result<Totals, Refusal>
     requires { (is_prose document.now ≡ true) × (length document.now ≤ 32768) }
     ensures { (manner : Manner) (store work : ℕ) → length document.now ≤ work → Pages manner document.now store work result out.old out.new }
 {
     if out.len() < document.len() {
-        return PageAnswer::Refused(Refusal::OutputTooSmall);
+        return Err(Refusal::OutputTooSmall);
     }
-    let n = put(document, out, 0, true);
-    PageAnswer::Accepted(n, count_paragraphs(document), 0)
+    let n = put(document, out, 0);
+    Ok(Totals {
+        length: n,
+        paragraphs: count_paragraphs(document),
+        left: 0,
+    })
 }
 
 // The page operation; a document of 32,768 bytes has at most 16,385 paragraphs.
@@ -96,21 +91,17 @@ pub fn page(
     store: &mut [u8],
     work: &mut [u8],
     out: &mut [u8],
-) -> PageAnswer
+) -> Result<Totals, Refusal>
     ensures { Pages manner document.now (length store.old) (length work.old) result out.old out.new × Free store.old store.new × Free work.old work.new }
 {
     if 32768 < document.len() {
-        return PageAnswer::Refused(Refusal::TooLong);
+        return Err(Refusal::TooLong);
     }
-    if document.len() <= work.len() {
-        if is_prose(document) {
-            return prose_page(document, out);
-        }
+    if document.len() <= work.len() && is_prose(document) {
+        prose_page(document, out)
+    } else if document.len() < 2048 {
+        page_within::<16384, 1024>(manner, document, store, work, out)
+    } else {
+        page_within::<65536, 16385>(manner, document, store, work, out)
     }
-    if document.len() < 2048 {
-        return short_page(manner, document, store, work, out);
-    }
-    let mut draft = [0u8; 65536];
-    let mut left = [0u8; 16385];
-    page_in(manner, document, store, work, out, &mut draft, &mut left)
 }

@@ -1,16 +1,14 @@
 // Writing a page that has been measured: each paragraph replaced or as typed, and the breaks between them.
 ghost use Rattle.std.specs.Prelude.{◌≡◌, true, length};
-ghost use Rattle.text.specs.Put.{Room, Puts};
-ghost use Rattle.token.specs.Key.{rows};
+ghost use Rattle.text.specs.Put.{RoomAt, PutsAt};
 ghost use Rattle.breaks.specs.Pieces.{pieces};
-ghost use Rattle.page.specs.Page.{shown, left, shown_all};
-ghost use Rattle.page.specs.Marks.{Marked};
+ghost use Rattle.page.specs.Page.{shown, shown_all};
+ghost use Rattle.page.specs.Marks.{is_left, Marked};
 
 use breaks::{break_end, next_break};
 use latex2mathml::Manner;
 use latex2mathml::replace::write_replacement;
 use text::put::put;
-use token::table::Table;
 
 // Writes a paragraph at a place as it comes out: replaced, or as typed.
 fn write_paragraph(
@@ -20,51 +18,41 @@ fn write_paragraph(
     work: &mut [u8],
     out: &mut [u8],
     at: usize,
-    mark: u8,
-    table: &Table,
+    typed: bool,
 ) -> usize
-    requires { (mark ≡ left manner (length store.old) (length work.old) p.now) × Room true out.old at (length (shown manner (length store.old) (length work.old) p.now)) × (table.now ≡ rows) }
-    ensures { Puts true out.old out.new at (shown manner (length store.old) (length work.old) p.now) result }
+    requires { (typed ≡ is_left manner (length store.old) (length work.old) p.now) × RoomAt out.old at (length (shown manner (length store.old) (length work.old) p.now)) }
+    ensures { PutsAt out.old out.new at (shown manner (length store.old) (length work.old) p.now) result }
 {
-    if mark == 0 {
-        return write_replacement(manner, p, store, work, out, at, table);
+    if typed {
+        put(p, out, at)
+    } else {
+        write_replacement(manner, p, store, work, out, at)
     }
-    put(p, out, at, true)
 }
 
-// Writes each paragraph in turn and copies the breaks between them.
+// Writes each paragraph in turn and copies the breaks between them. The turns are those of drafting; what is kept from one to the next is not, so the loop stands in both.
 pub fn write_page(
     manner: Manner,
     document: &[u8],
     store: &mut [u8],
     work: &mut [u8],
     out: &mut [u8],
-    left: &[u8],
-    table: &Table,
+    left: &[bool],
 ) -> usize
-    requires { Marked manner document.now (length store.old) (length work.old) left.now × Room true out.old 0 (length (shown_all manner (length store.old) (length work.old) (pieces document.now))) × (table.now ≡ rows) }
-    ensures { Puts true out.old out.new 0 (shown_all manner (length store.old) (length work.old) (pieces document.now)) result }
+    requires { Marked manner document.now (length store.old) (length work.old) left.now × RoomAt out.old 0 (length (shown_all manner (length store.old) (length work.old) (pieces document.now))) }
+    ensures { PutsAt out.old out.new 0 (shown_all manner (length store.old) (length work.old) (pieces document.now)) result }
 {
     let mut from: usize = 0;
     let mut at: usize = 0;
     let mut k: usize = 0;
     loop {
         let e = next_break(document, from);
-        at = write_paragraph(
-            manner,
-            &document[from..e],
-            store,
-            work,
-            out,
-            at,
-            left[k],
-            table,
-        );
+        at = write_paragraph(manner, &document[from..e], store, work, out, at, left[k]);
         if e == document.len() {
             return at;
         }
         from = break_end(document, e);
-        at = put(&document[e..from], out, at, true);
+        at = put(&document[e..from], out, at);
         k += 1;
     }
 }

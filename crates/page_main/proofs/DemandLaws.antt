@@ -5,9 +5,10 @@ use mathlib.Core.List.{List}
 use Prim.Native.Nat.{ℕ}
 use lib.ListN.{length, drop, replicate, length-replicate}
 use lib.Seq.{take_at}
+use Rattle.std.specs.Prelude.{Ok}
 use Rattle.latex2mathml.specs.Manner.{old}
 use Rattle.latex2mathml.specs.Written.{over}
-use Rattle.page.specs.declared.PageAnswer.{PageAnswer}
+use Rattle.page.specs.declared.Totals.{Totals}
 use Rattle.page.specs.Page.{Paged, page, output_of}
 use Rattle.page.specs.Run.{answer_length}
 use Rattle.page.specs.Words.{Run, output, DifferInParagraph}
@@ -17,6 +18,10 @@ use Rattle.page.proofs.DemandLaws.{demand3}
 use Rattle.page_main.specs.Program.{program}
 use Rattle.page_main.specs.Demand.{Accepts, DemandOfProgram}
 use Rattle.page_main.proofs.ProgramLaws.{accepted_page}
+
+-- the totals of a page
+abbrev totals : Paged → Totals
+totals p = record { length = length p.output; paragraphs = p.paragraphs; left = p.left }
 
 -- over any output buffer of the program's size
 module _ (o : List ℕ) (long : length o ≡ 65536) where
@@ -28,20 +33,20 @@ module _ (o : List ℕ) (long : length o ≡ 65536) where
   written document p is =
       rw (long, is) (take_at p.output (drop (length p.output) o) (length p.output) refl ∙ sym (accepted_page document p is))
 
-  not_refused : (document : List ℕ) (p : Paged) → Accepts document p → (run_of document).answer ≡ PageAnswer.Accepted (length p.output) p.paragraphs p.left
+  not_refused : (document : List ℕ) (p : Paged) → Accepts document p → (run_of document).answer ≡ Ok (totals p)
   not_refused document p is = rw (long, is)
 
   one_document_lem : (document : List ℕ) (p : Paged) → Accepts document p → OneRun old document 61440 65536 (program document) p.paragraphs p.left
   one_document_lem document p is =
-      rw (← written document p is) (demand3.one_run (run_of document) _ p.paragraphs p.left (not_refused document p is))
+      rw (← written document p is) (demand3.one_run (run_of document) (totals p) (not_refused document p is))
 
   two_documents_lem : (a b : List ℕ) (m n : Paged) → Accepts a m → Accepts b n → {p q : List ℕ} (d : DifferInParagraph a b p q)
       → TwoRuns old a b 61440 65536 d (program a) (program b)
   two_documents_lem a b m n e f d =
       rw (← written a m e, ← written b n f)
       (demand3.two_runs (run_of a) (run_of b)
-      (length m.output, m.paragraphs, m.left, not_refused a m e)
-      (length n.output, n.paragraphs, n.left, not_refused b n f)
+      (totals m, not_refused a m e)
+      (totals n, not_refused b n f)
       (record { manner = refl; store = refl; work = refl; room = refl })
       d)
 

@@ -1,14 +1,15 @@
 -- What the program writes, piece by piece as the code puts it.
 -- Assumes nothing.
 use mathlib.Core.Path.{◌≡◌, refl, sym, ◌∙◌, ap}
-use mathlib.Core.Bool.{true}
 use mathlib.Core.List.{List, [], ◌∷◌}
 use Prim.Native.Nat.{ℕ, ◌+◌, ◌/◌, ◌%◌, ◌≤◌, ◌<◌}
 use native.Mathlib.Omega.{arith}
 use lib.ListN.{length, take, drop, length-append, length-drop}
 use lib.Seq.{take_at, length-take-le}
 use borrow.Author.Tests.{lt-ltb, le-ltb}
-use Rattle.text.specs.Put.{Room, Puts}
+use Rattle.std.specs.Prelude.{Ok, Err}
+use Rattle.text.specs.declared.put.Output.{Output}
+use Rattle.text.specs.Put.{RoomAt, PutsAt, Room, Puts}
 use Rattle.text.specs.Examples.{text_opens}
 use Rattle.text.proofs.Cases.{by_order}
 use Rattle.text.proofs.PutLaws.{puts_all}
@@ -18,7 +19,7 @@ use Rattle.latex2mathml.specs.Manner.{old}
 use Rattle.latex2mathml.specs.Outcome.{Outcome, accepted, refused, number_of}
 use Rattle.latex2mathml.specs.Written.{over}
 use Rattle.latex2mathml.proofs.OutcomeLaws.{number_range}
-use Rattle.page.specs.declared.PageAnswer.{PageAnswer}
+use Rattle.page.specs.declared.Totals.{Totals}
 use Rattle.page.specs.Page.{Paged, page, output_of}
 use Rattle.page.specs.Run.{answer_number, answer_length, Pages}
 use Rattle.page_main.specs.Program.{decimal, refusal, program, Answers}
@@ -42,10 +43,10 @@ unfolding refusal text_opens
 refusal_short r = let d = decimal_short (number r) in simp length-append (omega arith)
 
 -- the line of a refusal fits an output of the program's size
-pub refusal_room : (r : Refusal) {o : List ℕ} → 65536 ≡ length o → Room true o 0 (length (refusal r))
+pub refusal_room : (r : Refusal) {o : List ℕ} → 65536 ≡ length o → RoomAt o 0 (length (refusal r))
 refusal_room r long =
     let h = refusal_short r in
-    record { small = omega arith; inside = λ _. omega arith }
+    record { inside = omega arith }
 
 -- bytes that a buffer holds at its front without growing lie within it
 front : (l o : List ℕ) {o' : List ℕ} → length o' ≡ length o → o' ≡ over l o → (length l ≤ length o') × (take (length l) o' ≡ l)
@@ -82,13 +83,20 @@ refused_page document (refused q) r is e = rw (program, is) (rw (sym e))
 
 -- the two ways through the program, over an output of its size that keeps its length
 module _ {document o o' : List ℕ} (long : 65536 ≡ length o) (kept : length o' ≡ length o) where
-  pub answer_accepts : {n p q : ℕ} → Pages old document 61440 65536 (PageAnswer.Accepted n p q) o o' → Answers document n o'
+  pub answer_accepts : {t : Totals} → Pages old document 61440 65536 (Ok t) o o' → Answers document t.length o'
   unfolding answer_number answer_length
   answer_accepts g = told_page document o (page old document 61440 65536 (length o)) (rw long) g.number g.size kept g.output
 
-  pub answer_refuses : {r : Refusal} {n : ℕ} {o'' : List ℕ} → length o'' ≡ length o' → Pages old document 61440 65536 (PageAnswer.Refused r) o o'
-      → Puts true o' o'' 0 (refusal r) n → Answers document n o''
+  pub answer_refuses : {r : Refusal} {n : ℕ} {o'' : List ℕ} → length o'' ≡ length o' → Pages old document 61440 65536 (Err r) o o'
+      → PutsAt o' o'' 0 (refusal r) n → Answers document n o''
   unfolding over answer_number
   answer_refuses {r} {n} same g p =
       let e : program document ≡ refusal r = refused_page document (page old document 61440 65536 (length o)) r (rw long) g.number in
       fronted document (refusal r) o' e (omega (arith, p.place)) same (puts_all p)
+
+-- what is put into an output that begins at a place is put at the place, and there is as much room
+pub output_room : {o : List ℕ} {at n : ℕ} (p : Output) → p.bytes.now ≡ o → p.at ≡ at → RoomAt o at n → Room p n
+output_room p bytes place room = record { inside = rw (bytes, place) room.inside }
+
+pub output_puts : {o bs : List ℕ} {at : ℕ} (p : Output) → p.bytes.now ≡ o → p.at ≡ at → {p' : Output} → Puts p p' bs → PutsAt o p'.bytes.now at bs p'.at
+output_puts p bytes place h = rw (← bytes, ← place) h.puts

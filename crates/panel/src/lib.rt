@@ -12,46 +12,47 @@ ghost use Rattle.page.specs.Page.{page};
 ghost use Rattle.panel.specs.Calls.{style_of, manner_of, TranslateCall, ReplaceCall, PageCall};
 
 use attribute::DisplayStyle;
-use latex2mathml::{Answer, Manner, number};
-use page::PageAnswer;
+use error::Refusal;
+use latex2mathml::Manner;
 use text::Dialect;
 
 // The display that a yes or no asks for.
+#[tactic(auto, unfolding(crate::specs::Calls::style_of))]
 fn style_of(block: bool) -> DisplayStyle
     ensures { result ≡ style_of block }
 {
     if block {
-        return DisplayStyle::Block;
+        DisplayStyle::Block
+    } else {
+        DisplayStyle::Inline
     }
-    DisplayStyle::Inline
 }
 
 // The manner that a yes or no asks for.
 fn manner_of(strict: bool) -> Manner
     ensures { result ≡ manner_of strict }
 {
-    if strict {
-        return Manner {
-            dialect: Dialect::Strict,
-        };
-    }
-    Manner {
-        dialect: Dialect::Old,
-    }
+    let dialect = if strict {
+        Dialect::Strict
+    } else {
+        Dialect::Old
+    };
+    Manner { dialect }
 }
 
 // An answer in numbers; the size of the output is written on refusal too, so that the host reads no old one.
-fn in_numbers(answer: Answer, size: &mut u64) -> u32
+#[tactic(auto, unfolding(latex2mathml::specs::Written::answer_number, latex2mathml::specs::Written::answer_length))]
+fn in_numbers(answer: Result<usize, Refusal>, size: &mut u64) -> u32
     ensures { (result ≡ answer_number answer) × (size.new ≡ answer_length answer) }
 {
     match answer {
-        Answer::Accepted(n) => {
+        Ok(n) => {
             *size = n as u64;
             0
         }
-        Answer::Refused(r) => {
+        Err(r) => {
             *size = 0;
-            number(r)
+            u32::from(r)
         }
     }
 }
@@ -145,17 +146,17 @@ pub fn latex_page_in(
 {
     let manner = manner_of(strict);
     match page::page(manner, document, store, work, output) {
-        PageAnswer::Accepted(n, pieces, left) => {
-            *size = n as u64;
-            *paragraphs = pieces as u64;
-            *refused = left as u64;
+        Ok(totals) => {
+            *size = totals.length as u64;
+            *paragraphs = totals.paragraphs as u64;
+            *refused = totals.left as u64;
             0
         }
-        PageAnswer::Refused(r) => {
+        Err(r) => {
             *size = 0;
             *paragraphs = 0;
             *refused = 0;
-            number(r)
+            u32::from(r)
         }
     }
 }

@@ -3,11 +3,11 @@
 use mathlib.Core.Path.{◌≡◌, refl, sym, ◌∙◌, ap}
 use mathlib.Core.Bool.{true, false}
 use mathlib.Core.List.{List}
+use Rattle.std.specs.Prelude.{Ok}
 use Prim.Native.Nat.{ℕ, zero, suc, ◌+◌, ◌-◌, ◌*◌, ◌/◌, ◌≤◌, ◌<◌}
 use native.Mathlib.Omega.{arith}
 use lib.ListN.{length}
 use borrow.Author.Tests.{lt-ltb, le-ltb}
-use Rattle.token.specs.Key.{rows}
 use Rattle.error.specs.declared.Refusal.{Refusal}
 use Rattle.token.specs.declared.Mark.{Mark}
 use Rattle.ast.specs.Tree.{Node, Nodes, snoc}
@@ -19,7 +19,6 @@ use Rattle.parser.specs.Sound.{Sound}
 use Rattle.parser.specs.Built.{Built}
 use Rattle.parser.proofs.MoveLaws.{new_sound, new_made}
 use Rattle.parser.proofs.BodyLaws.{node_keeps, parse_kept}
-use Rattle.parse.specs.declared.ParsedNodes.{ParsedNodes}
 use Rattle.parse.specs.Body.{parse_body, BodyAnswers}
 use Rattle.parse.proofs.RoomLaws.{Starts}
 use Rattle.parse.proofs.LoopLaws.{never_spent, Loops, loops_none, more_turns}
@@ -49,19 +48,19 @@ module _ (node : Reads) (s : List ℕ) where
 -- ---- the loop
 
 -- what holds on the way through the body s
-abbrev pub BodyLoop : ℕ → List ℕ → List ℕ → List ℕ → List ℕ → Parser → ℕ → ℕ → ℕ → Type 0
-BodyLoop depth tab s st₀ st q first last n = Loops tab s (λ k p ns. nodes_up_to (λ x. parse_node depth s x) s k p ns) (new s) st₀ st q first last n
+abbrev pub BodyLoop : ℕ → List ℕ → List ℕ → List ℕ → Parser → ℕ → ℕ → ℕ → Type 0
+BodyLoop depth s st₀ st q first last n = Loops s (λ k p ns. nodes_up_to (λ x. parse_node depth s x) s k p ns) (new s) st₀ st q first last n
 
 -- two records for each byte suffice
-pub body_none : (depth : ℕ) (tab s st : List ℕ) (q : Parser) → tab ≡ rows → length s ≤ 4096 → 2 * length s * 24 ≤ length st → q ≡ new s → BodyLoop depth tab s st st q 0 0 0
-body_none depth tab s st q table short lent is =
+pub body_none : (depth : ℕ) (s st : List ℕ) (q : Parser) {first last n : ℕ} → length s ≤ 4096 → 2 * length s * 24 ≤ length st → q ≡ new s → first ≡ 0 → last ≡ 0 → n ≡ 0 → BodyLoop depth s st st q first last n
+body_none depth s st q short lent is no_first no_last no_node =
     let none_made = new_made s in
-    let start : Starts tab s st (new s) 0 = record { sound = new_sound s; cap = 2 * length s; room = omega arith; lent = lent; small = omega arith; long = omega arith; table = table } in
-    rw is (loops_none start)
+    let start : Starts s st (new s) 0 = record { sound = new_sound s; cap = 2 * length s; room = omega arith; lent = lent; small = omega arith; long = omega arith } in
+    rw is (loops_none start no_first no_last no_node)
 
-module _ {tab : List ℕ} (depth : ℕ) (s : List ℕ) {st₀ st : List ℕ} {q : Parser} {first last n : ℕ} (g : BodyLoop depth tab s st₀ st q first last n) where
+module _ (depth : ℕ) (s : List ℕ) {st₀ st : List ℕ} {q : Parser} {first last n : ℕ} (g : BodyLoop depth s st₀ st q first last n) where
   -- the nodes stand in the store where the body ends
-  pub body_end : cur_is q Mark.EOF ≡ true → BodyAnswers s st (parse depth s) (ParsedNodes.Nodes first n q.made)
+  pub body_end : cur_is q Mark.EOF ≡ true → BodyAnswers s st (parse depth s) (Ok (record { first = first; count = n; made = q.made }))
   unfolding parse
   body_end e =
       let is : parse depth s ≡ made g.ns q = g.is ∙ turn_end (λ x. parse_node depth s x) s g.fuel q g.ns g.spare.sound g.enough e in
@@ -92,10 +91,10 @@ module _ {tab : List ℕ} (depth : ℕ) (s : List ℕ) {st₀ st : List ℕ} {q 
 
   -- one node more
   pub body_turns : (e : cur_is q Mark.EOF ≡ false) {st₁ : List ℕ} → length st₁ ≡ length st → {i : ℕ} {r : Parser} → Built st st₁ q.made q (parse_node depth s q) i r
-      → (st₂ : List ℕ) (first' : ℕ) (r' : Parser) → length st₂ ≡ length st₁ → Appends st₁ st₂ first last n i first' → r' ≡ next s r
-      → BodyLoop depth tab s st₀ st₂ r' first' i (n + 1)
-  body_turns e len b st₂ first' r' len₂ ap₂ step =
-      more_turns g (node_keeps depth s) e len b st₂ first' r' len₂ ap₂ step
+      → (st₂ : List ℕ) (first' last' n' : ℕ) (r' : Parser) → length st₂ ≡ length st₁ → Appends st₁ st₂ first last n i first' → (last' ≡ i) × (n' ≡ n + 1) → r' ≡ next s r
+      → BodyLoop depth s st₀ st₂ r' first' last' n'
+  body_turns e len b st₂ first' last' n' r' len₂ ap₂ moved step =
+      more_turns g (node_keeps depth s) e len b st₂ first' last' n' r' len₂ ap₂ moved step
       (turn_more (λ x. parse_node depth s x) s g.fuel q g.ns g.spare.sound g.enough e b.is)
 
 -- ---- the limits, in the order in which they are tested

@@ -11,11 +11,10 @@ use Rattle.token.specs.declared.Mark.{Mark}
 use Rattle.ast.specs.Tree.{Node, Nodes, empty, snoc}
 use Rattle.ast.specs.Appended.{Appends}
 use Rattle.parser.specs.declared.Parser.{Parser}
-use Rattle.parser.specs.declared.ParsedNode.{ParsedNode}
 use Rattle.parser.specs.State.{next, cur_is}
 use Rattle.parser.specs.Parse.{Parsed, made, refused, Reads, ◌>>=◌, grouped, group_up_to}
 use Rattle.parser.specs.Sound.{Sound, Keeps}
-use Rattle.parser.specs.Built.{Built, Builds, BuildsRow}
+use Rattle.parser.specs.Built.{Answer, Built, Builds, BuildsRow}
 use Rattle.parse.proofs.SeqLaws.{rebased}
 use Rattle.parse.proofs.LoopLaws.{count_few, never_spent, Loops, more_turns}
 
@@ -50,10 +49,10 @@ module _ (node : Reads) (s : List ℕ) (end : Mark) where
 -- ---- the loop
 
 -- what holds on the way through a group
-abbrev pub GroupLoop : List ℕ → List ℕ → Reads → Mark → Parser → List ℕ → List ℕ → Parser → ℕ → ℕ → ℕ → Type 0
-GroupLoop tab s node end q₀ st₀ st q first last n = Loops tab s (λ k p ns. group_up_to node s end k p ns) q₀ st₀ st q first last n
+abbrev pub GroupLoop : List ℕ → Reads → Mark → Parser → List ℕ → List ℕ → Parser → ℕ → ℕ → ℕ → Type 0
+GroupLoop s node end q₀ st₀ st q first last n = Loops s (λ k p ns. group_up_to node s end k p ns) q₀ st₀ st q first last n
 
-module _ {tab : List ℕ} (node : Reads) (s : List ℕ) (end : Mark) {q₀ : Parser} {st₀ st : List ℕ} {q : Parser} {first last n : ℕ} (g : GroupLoop tab s node end q₀ st₀ st q first last n) where
+module _ (node : Reads) (s : List ℕ) (end : Mark) {q₀ : Parser} {st₀ st : List ℕ} {q : Parser} {first last n : ℕ} (g : GroupLoop s node end q₀ st₀ st q first last n) where
   pub group_end : (p : Parser) (want : Parsed Node) → cur_is q Mark.EOF ≡ true → want ≡ group_up_to node s end (suc (length s)) q₀ empty → want ≡ refused Refusal.UnexpectedToken
   group_end p want e is = is ∙ g.is ∙ turn_end node s end g.fuel q g.ns e
 
@@ -61,7 +60,7 @@ module _ {tab : List ℕ} (node : Reads) (s : List ℕ) (end : Mark) {q₀ : Par
       → want ≡ refused r
   group_refused want e f h is = is ∙ g.is ∙ turn_refused node s end g.fuel q g.ns g.spare.sound g.enough e f h
 
-  pub group_closed : (st' : List ℕ) (p : Parser) (want : Parsed Node) (r : ParsedNode) → cur_is q Mark.EOF ≡ false → cur_is q end ≡ true → q₀.made ≡ p.made
+  pub group_closed : (st' : List ℕ) (p : Parser) (want : Parsed Node) (r : Answer) → cur_is q Mark.EOF ≡ false → cur_is q end ≡ true → q₀.made ≡ p.made
       → want ≡ group_up_to node s end (suc (length s)) q₀ empty → BuildsRow st st' q first n (λ ns. grouped ns q) r → Builds st₀ st' p.made p want r
   group_closed st' p want r e f same is bs =
       let c = count_few st q₀.made first g.before last q.made g.ns g.held in
@@ -69,7 +68,7 @@ module _ {tab : List ℕ} (node : Reads) (s : List ℕ) (end : Mark) {q₀ : Par
 
   -- one node more
   pub group_turns : Keeps s node → (e : cur_is q Mark.EOF ≡ false) {st₁ : List ℕ} → length st₁ ≡ length st → {i : ℕ} {r : Parser} → Built st st₁ q.made q (node q) i r
-      → (st₂ : List ℕ) (first' : ℕ) (r' : Parser) → length st₂ ≡ length st₁ → cur_is q end ≡ false → Appends st₁ st₂ first last n i first' → r' ≡ next s r
-      → GroupLoop tab s node end q₀ st₀ st₂ r' first' i (n + 1)
-  group_turns keeps e len b st₂ first' r' len₂ f ap₂ step =
-      more_turns g keeps e len b st₂ first' r' len₂ ap₂ step (turn_more node s end g.fuel q g.ns g.spare.sound g.enough e f b.is)
+      → (st₂ : List ℕ) (first' last' n' : ℕ) (r' : Parser) → length st₂ ≡ length st₁ → cur_is q end ≡ false → Appends st₁ st₂ first last n i first' → (last' ≡ i) × (n' ≡ n + 1) → r' ≡ next s r
+      → GroupLoop s node end q₀ st₀ st₂ r' first' last' n'
+  group_turns keeps e len b st₂ first' last' n' r' len₂ f ap₂ moved step =
+      more_turns g keeps e len b st₂ first' last' n' r' len₂ ap₂ moved step (turn_more node s end g.fuel q g.ns g.spare.sound g.enough e f b.is)

@@ -3,6 +3,7 @@
 use mathlib.Core.Path.{◌≡◌, refl, sym, ◌∙◌, ap}
 use mathlib.Core.Bool.{Bool, true, false, not, ◌&&◌, ◌||◌, false≢true}
 use mathlib.Core.List.{List, [], ◌∷◌}
+use Rattle.std.specs.Prelude.{Some, None}
 use Prim.Native.Nat.{ℕ, ◌+◌, ◌-◌, ◌^◌, ◌≤◌, ◌<◌}
 use native.Mathlib.Omega.{arith}
 use types.Run.{OneOf}
@@ -15,7 +16,7 @@ use Rattle.token.specs.contracts.Token.{the_type}
 use Rattle.ast.specs.Shape.{Placed}
 use Rattle.ast.specs.Tree.{Node, leaf, two}
 use Rattle.parser.specs.declared.Parser.{Parser}
-use Rattle.parser.specs.declared.Script.{Script}
+use Rattle.parser.specs.declared.Side.{Side}
 use Rattle.parser.specs.State.{next, peek_is}
 use Rattle.parser.specs.Parse.{made, Reads, build, parse_bare, parse_scripts, parse_node, parse_single_node}
 use Rattle.parser.specs.Sound.{TokenInside}
@@ -106,7 +107,7 @@ alone_single d s p le e =
     single_more d s p (λ z. omega arith) ∙ bare ∙ prime_none s _ _ m.0
 
 -- .. and no mark of a script is behind it
-alone_marks : (p : Parser) → stands_alone p.cur.token p.peek.token ≡ true → script_of p.peek.token ≡ Script.Neither
+alone_marks : (p : Parser) → stands_alone p.cur.token p.peek.token ≡ true → script_of p.peek.token ≡ None
 unfolding stands_alone script_of
 alone_marks p e =
     let h = first_only (is_defined (leaf_of p.cur.token)) (is_put_on p.peek.token) e in
@@ -120,16 +121,16 @@ alone_is d s p le e =
     node_more d s p le ∙ node_is all s p (alone_single (d - 1) s p (omega arith) e) ∙ scripts_none all s _ (alone_marks p e) _
 
 -- as the operand of a script it is the only one
-pub alone_script : (d : ℕ) (s : List ℕ) (p : Parser) {b c : Parser} (over : Bool) → b ≡ next s p → c ≡ next s b → script_of p.peek.token ≡ Script.Operand over → 1 ≤ d
+pub alone_script : (d : ℕ) (s : List ℕ) (p : Parser) {b c : Parser} (side : Side) → b ≡ next s p → c ≡ next s b → script_of p.peek.token ≡ Some side → 1 ≤ d
     → stands_alone c.cur.token c.peek.token ≡ true → (n : Node)
-    → parse_scripts (λ q. parse_single_node d s q) s (script_of p.peek.token) n p ≡ build 2 (two (script_kind over) n (leaf (leaf_of c.cur.token))) c
+    → parse_scripts (λ q. parse_single_node d s q) s (script_of p.peek.token) n p ≡ build 2 (two (script_kind side) n (leaf (leaf_of c.cur.token))) c
 unfolding build
-alone_script d s p {b} {c} over e g f le h n =
+alone_script d s p {b} {c} side e g f le h n =
     let all : Reads = λ q. parse_single_node d s q in
     let both : c.made + 1 + 1 ≡ c.made + 2 = omega arith in
-    scripts_is all s p e g over f (alone_single d s c le h) n
-    ∙ second_none all s _ over (alone_marks c h) n _
-    ∙ ap (λ m. made (two (script_kind over) n (leaf (leaf_of c.cur.token))) (record { cur = c.cur; peek = c.peek; made = m })) both
+    scripts_is all s p e g side f (alone_single d s c le h) n
+    ∙ second_none all s _ side (alone_marks c h) n _
+    ∙ ap (λ m. made (two (script_kind side) n (leaf (leaf_of c.cur.token))) (record { cur = c.cur; peek = c.peek; made = m })) both
 
 -- the places that such a leaf carries fit four bytes
 pub leaf_placed : (n : ℕ) (t : Token) → n < 2 ^ 32 → TokenInside n t → Placed (leaf_of t)

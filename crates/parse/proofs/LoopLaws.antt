@@ -3,7 +3,7 @@
 use mathlib.Core.Path.{◌≡◌, refl, sym, ◌∙◌, ap}
 use mathlib.Core.Bool.{false}
 use mathlib.Core.List.{List}
-use Prim.Native.Nat.{ℕ, zero, suc, ◌+◌, ◌-◌, ◌*◌, ◌≤◌, ◌<◌}
+use Prim.Native.Nat.{ℕ, zero, suc, ◌+◌, ◌-◌, ◌*◌, ◌^◌, ◌≤◌, ◌<◌}
 use native.Mathlib.Omega.{arith}
 use lib.ListN.{length}
 use Rattle.token.specs.declared.Mark.{Mark}
@@ -54,13 +54,13 @@ abbrev pub Rest : Type 0 → Type 0
 Rest A = ℕ → Parser → Nodes → Parsed A
 
 -- on the way: of the nodes from q₀ on, n are read, and stand from `first` to `last`
-pub record Loops {A : Type 0} (tab s : List ℕ) (rest : Rest A) (q₀ : Parser) (st₀ st : List ℕ) (q : Parser) (first last n : ℕ) : Type 0 where
+pub record Loops {A : Type 0} (s : List ℕ) (rest : Rest A) (q₀ : Parser) (st₀ st : List ℕ) (q : Parser) (first last n : ℕ) : Type 0 where
   pub ns : Nodes
   pub before : ℕ
   pub fuel : ℕ
   pub is : rest (suc (length s)) q₀ empty ≡ rest fuel q ns
   pub enough : length s < q.cur.start + fuel
-  pub spare : Starts tab s st q 0
+  pub spare : Starts s st q 0
   pub held : HoldsAll st q₀.made first before last q.made ns
   pub many : n ≡ count ns
   pub small : first < 65536
@@ -68,23 +68,26 @@ pub record Loops {A : Type 0} (tab s : List ℕ) (rest : Rest A) (q₀ : Parser)
   pub kept : Stay st₀ st q₀
 
 -- before the first node
-pub loops_none : {A : Type 0} {tab s : List ℕ} {rest : Rest A} {q₀ : Parser} {st : List ℕ} → Starts tab s st q₀ 0 → Loops tab s rest q₀ st st q₀ 0 0 0
+pub loops_none : {A : Type 0} {s : List ℕ} {rest : Rest A} {q₀ : Parser} {st : List ℕ} {first last n : ℕ} → Starts s st q₀ 0 → first ≡ 0 → last ≡ 0 → n ≡ 0
+    → Loops s rest q₀ st st q₀ first last n
 unfolding count
-loops_none {A} {tab} {s} {rest} {q₀} {st} h = record {
-  ns = empty;
-  before = 0;
-  fuel = suc (length s);
-  is = refl;
-  enough = omega arith;
-  spare = h;
-  held = (refl, refl);
-  many = refl;
-  small = omega arith;
-  reach = omega arith;
-  kept = λ j lt. refl;
-}
+loops_none {A} {s} {rest} {q₀} {st} h no_first no_last no_node =
+    rw (no_first, no_last, no_node)
+    (record {
+      ns = empty;
+      before = 0;
+      fuel = suc (length s);
+      is = refl;
+      enough = omega arith;
+      spare = h;
+      held = (refl, refl);
+      many = refl;
+      small = omega arith;
+      reach = omega arith;
+      kept = λ j lt. refl;
+    })
 
-module _ {A : Type 0} {tab s : List ℕ} {rest : Rest A} {q₀ : Parser} {st₀ st : List ℕ} {q : Parser} {first last n : ℕ} (g : Loops tab s rest q₀ st₀ st q first last n) where
+module _ {A : Type 0} {s : List ℕ} {rest : Rest A} {q₀ : Parser} {st₀ st : List ℕ} {q : Parser} {first last n : ℕ} (g : Loops s rest q₀ st₀ st q first last n) where
   -- a token that is not the end has a byte
   pub loops_wide : cur_is q Mark.EOF ≡ false → q.cur.start < q.cur.end
   loops_wide e =
@@ -92,7 +95,7 @@ module _ {A : Type 0} {tab s : List ℕ} {rest : Rest A} {q₀ : Parser} {st₀ 
       let w = g.spare.sound.cur.wide in
       omega arith
 
-  pub loops_ready : cur_is q Mark.EOF ≡ false → Ready tab s st q
+  pub loops_ready : cur_is q Mark.EOF ≡ false → Ready s st q
   loops_ready e = wide_ready g.spare (loops_wide e)
 
   pub loops_few : n ≤ q.made
@@ -113,15 +116,18 @@ module _ {A : Type 0} {tab s : List ℕ} {rest : Rest A} {q₀ : Parser} {st₀ 
 
   -- ---- one node more
   module _ {node : Reads} (keeps : Keeps s node) (e : cur_is q Mark.EOF ≡ false) {st₁ : List ℕ} (len : length st₁ ≡ length st) {i : ℕ} {r : Parser} (b : Built st st₁ q.made q (node q) i r) where
-    pub more_ends : Ends tab s st₁ r 0
+    pub more_ends : Ends s st₁ r 0
     more_ends = wide_ends len g.spare (loops_wide e) keeps b
 
     more_low : q.made ≤ i
     more_low = low st₁ q.made i b.tree b.held
 
-    -- what append requires
-    pub more_append : (last * 24 + 24 ≤ length st₁) × (i < 65536)
-    more_append =
+    -- what `push` requires
+    pub more_push : (last * 24 + 24 ≤ length st₁) × (i < 65536) × (n + 1 < 2 ^ 64)
+    more_push =
+        let few = loops_few in
+        let free = loops_free e in
+        let one_free = free.small in
         let a = more_low in
         let d = b.last in
         let h = more_ends in
@@ -130,7 +136,7 @@ module _ {A : Type 0} {tab s : List ℕ} {rest : Rest A} {q₀ : Parser} {st₀ 
         let lent = h.lent in
         let small = h.small in
         let reach = g.reach in
-        (omega arith, omega arith)
+        (omega arith, omega arith, omega arith)
 
     enough_after : (k : ℕ) → length s < q.cur.start + k → length s < (next s r).cur.start + (k - 1)
     enough_after zero h = absurd (never_spent s q g.spare.sound h)
@@ -138,10 +144,10 @@ module _ {A : Type 0} {tab s : List ℕ} {rest : Rest A} {q₀ : Parser} {st₀ 
         let a = enough_behind s keeps k q b.tree r g.spare.sound e h b.is in
         omega arith
 
-    pub more_turns : (st₂ : List ℕ) (first' : ℕ) (r' : Parser) → length st₂ ≡ length st₁ → Appends st₁ st₂ first last n i first' → r' ≡ next s r
-        → rest g.fuel q g.ns ≡ rest (g.fuel - 1) (next s r) (snoc g.ns b.tree) → Loops tab s rest q₀ st₀ st₂ r' first' i (n + 1)
+    pub more_turns : (st₂ : List ℕ) (first' last' n' : ℕ) (r' : Parser) → length st₂ ≡ length st₁ → Appends st₁ st₂ first last n i first' → (last' ≡ i) × (n' ≡ n + 1) → r' ≡ next s r
+        → rest g.fuel q g.ns ≡ rest (g.fuel - 1) (next s r) (snoc g.ns b.tree) → Loops s rest q₀ st₀ st₂ r' first' last' n'
     unfolding next
-    more_turns st₂ first' r' len₂ ap₂ step turn =
+    more_turns st₂ first' last' n' r' len₂ ap₂ moved step turn =
         let a = more_low in
         let d = b.last in
         let h = more_ends in
@@ -153,8 +159,8 @@ module _ {A : Type 0} {tab s : List ℕ} {rest : Rest A} {q₀ : Parser} {st₀ 
         let old : HoldsAll st₁ q₀.made first g.before last q.made g.ns = frame_all st st₁ q₀.made first g.before last q.made g.ns (λ j x y. b.kept j y) g.held in
         let new : HoldsAll st₂ q₀.made first' g.before i r.made (snoc g.ns b.tree) = ap₂.linked q₀.made g.before q.made r.made g.ns b.tree old g.many b.held d in
         let below = snoc_below st₂ q₀.made first' g.before i r.made g.ns b.tree new in
-        let start : Starts tab s st₂ (next s r) 0 = ends_next (record { sound = h.sound; cap = h.cap; room = h.room; lent = omega arith; small = h.small; long = h.long; table = h.table }) refl in
-        rw step
+        let start : Starts s st₂ (next s r) 0 = ends_next (record { sound = h.sound; cap = h.cap; room = h.room; lent = omega arith; small = h.small; long = h.long }) refl in
+        rw (step, moved.0, moved.1)
         (record {
           ns = snoc g.ns b.tree;
           before = g.before;

@@ -3,6 +3,7 @@
 use mathlib.Core.Path.{◌≡◌, refl, sym, ◌∙◌, subst}
 use mathlib.Core.List.{List}
 use mathlib.Core.Option.{none}
+use Rattle.std.specs.Prelude.{Ok, Err}
 use Prim.Native.Nat.{ℕ, ◌≤◌, ◌<◌}
 use native.Mathlib.Omega.{arith}
 use Rattle.attribute.specs.declared.Variant.{Variant}
@@ -13,10 +14,9 @@ use Rattle.ast.specs.Held.{in_order, swapped, operand_of, Before, Holds, FillsTr
 use Rattle.ast.specs.Turned.{Sets}
 use Rattle.ast.proofs.HeldLaws.{low, frame_part, tree_low}
 use Rattle.parser.specs.declared.Parser.{Parser}
-use Rattle.parser.specs.declared.ParsedNode.{ParsedNode}
 use Rattle.parser.specs.Marks.{leaf_of}
 use Rattle.parser.specs.Parse.{Parsed, made, Reads, parse_bare}
-use Rattle.parser.specs.Built.{Built, Builds, BuildsNone, BuildsOne, BuildsTwo, BuildsBehind, BuildsThree}
+use Rattle.parser.specs.Built.{Answer, Built, Builds, BuildsNone, BuildsOne, BuildsTwo, BuildsBehind, BuildsThree}
 
 -- the records that were made before the state p stay
 abbrev pub Stay : List ℕ → List ℕ → Parser → Type 0
@@ -27,19 +27,19 @@ pub below : {st st' : List ℕ} {lo i : ℕ} {p q : Parser} {want : Parsed Node}
 below g = let e = g.last in omega arith
 
 -- an answer from a later state of the same call
-pub rebased : (st st₁ st₂ : List ℕ) (lo : ℕ) (p q : Parser) (want w : Parsed Node) (r : ParsedNode) → Builds st₁ st₂ lo q w r → Stay st st₁ p → p.made ≤ q.made → want ≡ w
+pub rebased : (st st₁ st₂ : List ℕ) (lo : ℕ) (p q : Parser) (want w : Parsed Node) (r : Answer) → Builds st₁ st₂ lo q w r → Stay st st₁ p → p.made ≤ q.made → want ≡ w
     → Builds st st₂ lo p want r
-rebased st st₁ st₂ lo p q want w (ParsedNode.Node i x) b kept le e = record {
+rebased st st₁ st₂ lo p q want w (Ok a) b kept le e = record {
   tree = b.tree;
   is = e ∙ b.is;
   held = b.held;
   last = b.last;
   kept = λ j h. b.kept j (omega arith) ∙ kept j h;
 }
-rebased st st₁ st₂ lo p q want w (ParsedNode.Refused n) b kept le e = e ∙ b
+rebased st st₁ st₂ lo p q want w (Err n) b kept le e = e ∙ b
 
 -- no node is read before
-pub after_none : (st st' : List ℕ) (p q : Parser) (want w : Parsed Node) (r : ParsedNode) → q.made ≡ p.made → BuildsNone st st' q w r → want ≡ w
+pub after_none : (st st' : List ℕ) (p q : Parser) (want w : Parsed Node) (r : Answer) → q.made ≡ p.made → BuildsNone st st' q w r → want ≡ w
     → Builds st st' p.made p want r
 after_none st st' p q want w r e b is = rebased st st st' p.made p q want w r (b p.made (sym e)) (λ j h. refl) (omega arith) is
 
@@ -73,21 +73,21 @@ module _ (st st₁ : List ℕ) (p b q : Parser) (want₁ : Parsed Node) (i : ℕ
   only want e = record { tree = g.tree; is = e; held = new_held; last = g.last; kept = old_kept }
 
   -- it is a part of the answer, by itself, behind a node that is there already, and behind two
-  pub after_one : (st₂ : List ℕ) (q' : Parser) (f : Node → Parsed Node) (want : Parsed Node) (r : ParsedNode) → q'.made ≡ q.made → BuildsOne st₁ st₂ q' i f r → want ≡ f g.tree
+  pub after_one : (st₂ : List ℕ) (q' : Parser) (f : Node → Parsed Node) (want : Parsed Node) (r : Answer) → q'.made ≡ q.made → BuildsOne st₁ st₂ q' i f r → want ≡ f g.tree
       → Builds st st₂ p.made p want r
   after_one st₂ q' f want r e bs is =
       let a = new_above in
       let d = g.last in
       rebased st st₁ st₂ p.made p q' want (f g.tree) r (bs p.made g.tree (new_fills q'.made e)) old_kept (omega arith) is
 
-  pub beside_one : (a : ℕ) (st₂ : List ℕ) (q' : Parser) (f : Node → Node → Parsed Node) (want : Node → Parsed Node) (r : ParsedNode) → q'.made ≡ q.made
+  pub beside_one : (a : ℕ) (st₂ : List ℕ) (q' : Parser) (f : Node → Node → Parsed Node) (want : Node → Parsed Node) (r : Answer) → q'.made ≡ q.made
       → BuildsBehind st₁ st₂ q' a i f r → ((n : Node) → want n ≡ f n g.tree) → BuildsOne st st₂ p a want r
   beside_one a st₂ q' f want r e bs is lo n h =
       let c = new_above in
       let d = g.last in
       rebased st st₁ st₂ lo p q' (want n) (f n g.tree) r (bs lo n g.tree p.made (old_fills lo p.made a n (omega arith) h) (new_fills q'.made e)) old_kept (omega arith) (is n)
 
-  pub beside_two : (a b : ℕ) (st₂ : List ℕ) (q' : Parser) (f : Node → Node → Node → Parsed Node) (want : Node → Node → Parsed Node) (r : ParsedNode)
+  pub beside_two : (a b : ℕ) (st₂ : List ℕ) (q' : Parser) (f : Node → Node → Node → Parsed Node) (want : Node → Node → Parsed Node) (r : Answer)
       → q'.made ≡ q.made → BuildsThree st₁ st₂ q' a b i f r → ((m n : Node) → want m n ≡ f m n g.tree) → BuildsBehind st st₂ p a b want r
   beside_two a b st₂ q' f want r e bs is lo m n mid x y =
       let c = new_above in
@@ -104,25 +104,25 @@ module _ (st st₁ : List ℕ) (p b q : Parser) (want₁ : Parsed Node) (i : ℕ
   first_below = old_below st₁ st₂ q b' q₂ want₂ j same₂ h i (below g)
 
   -- the second stands behind the first
-  pub after_behind : (st₃ : List ℕ) (q' : Parser) (f : Node → Node → Parsed Node) (want : Parsed Node) (r : ParsedNode) → q'.made ≡ q₂.made → BuildsBehind st₂ st₃ q' i j f r
+  pub after_behind : (st₃ : List ℕ) (q' : Parser) (f : Node → Node → Parsed Node) (want : Parsed Node) (r : Answer) → q'.made ≡ q₂.made → BuildsBehind st₂ st₃ q' i j f r
       → want ≡ f g.tree h.tree → Builds st st₃ p.made p want r
   after_behind st₃ q' f want r e bs is =
       after_one st st₁ p b q want₁ i same g st₃ q (λ n. f n h.tree) want r refl
       (beside_one st₁ st₂ q b' q₂ want₂ j same₂ h i st₃ q' f (λ n. f n h.tree) r e bs (λ n. refl))
       is
 
-  pub after_two : (st₃ : List ℕ) (q' : Parser) (f : Node → Node → Parsed Node) (want : Parsed Node) (r : ParsedNode) → q'.made ≡ q₂.made → BuildsTwo st₂ st₃ q' i j f r
+  pub after_two : (st₃ : List ℕ) (q' : Parser) (f : Node → Node → Parsed Node) (want : Parsed Node) (r : Answer) → q'.made ≡ q₂.made → BuildsTwo st₂ st₃ q' i j f r
       → want ≡ f g.tree h.tree → Builds st st₃ p.made p want r
   after_two st₃ q' f want r e bs is = after_behind st₃ q' f want r e (λ lo m n mid x y. bs lo m n (in_order mid x y)) is
 
   -- .. and is the first part
-  pub after_two_swapped : (st₃ : List ℕ) (q' : Parser) (f : Node → Node → Parsed Node) (want : Parsed Node) (r : ParsedNode) → q'.made ≡ q₂.made → BuildsTwo st₂ st₃ q' j i f r
+  pub after_two_swapped : (st₃ : List ℕ) (q' : Parser) (f : Node → Node → Parsed Node) (want : Parsed Node) (r : Answer) → q'.made ≡ q₂.made → BuildsTwo st₂ st₃ q' j i f r
       → want ≡ f h.tree g.tree → Builds st st₃ p.made p want r
   after_two_swapped st₃ q' f want r e bs is =
       after_behind st₃ q' (λ m n. f n m) want r e (λ lo m n mid x y. bs lo n m (swapped mid x y)) is
 
 -- nothing is read before
-pub as_two : (st st' : List ℕ) (p : Parser) (a b : ℕ) (f want : Node → Node → Parsed Node) (r : ParsedNode) → BuildsTwo st st' p a b f r → ((m n : Node) → want m n ≡ f m n) → BuildsBehind st st' p a b want r
+pub as_two : (st st' : List ℕ) (p : Parser) (a b : ℕ) (f want : Node → Node → Parsed Node) (r : Answer) → BuildsTwo st st' p a b f r → ((m n : Node) → want m n ≡ f m n) → BuildsBehind st st' p a b want r
 as_two st st' p a b f want r bs is lo m n mid x y = rebased st st st' lo p p (want m n) (f m n) r (bs lo m n (in_order mid x y)) (λ j h. refl) (omega arith) (is m n)
 
 -- the letters of a node that is read get a variant
@@ -139,17 +139,17 @@ after_set st st₁ st₂ p b q want₁ want i v same g sets is =
     }
 
 -- the arm of the current token
-pub bare_as : (node single : Reads) (s st st' : List ℕ) (lo : ℕ) (p : Parser) (t : Token) (r : ParsedNode) → p.cur.token ≡ t → Builds st st' lo p (parse_bare node single s t p) r
+pub bare_as : (node single : Reads) (s st st' : List ℕ) (lo : ℕ) (p : Parser) (t : Token) (r : Answer) → p.cur.token ≡ t → Builds st st' lo p (parse_bare node single s t p) r
     → Builds st st' lo p (parse_bare node single s p.cur.token p) r
 bare_as node single s st st' lo p t r e h = subst (λ x. Builds st st' lo p (parse_bare node single s x p) r) (sym e) h
 
 -- a node with its prime, of which q is the state behind the prime
-pub after_prime : (st st' : List ℕ) (p q : Parser) (a : ℕ) (f w : Node → Parsed Node) (r : ParsedNode) → q.made ≡ p.made → BuildsOne st st' q a w r → ((n : Node) → f n ≡ w n) → BuildsOne st st' p a f r
+pub after_prime : (st st' : List ℕ) (p q : Parser) (a : ℕ) (f w : Node → Parsed Node) (r : Answer) → q.made ≡ p.made → BuildsOne st st' q a w r → ((n : Node) → f n ≡ w n) → BuildsOne st st' p a f r
 after_prime st st' p q a f w r same b is lo n h =
     rebased st st st' lo p q (f n) (w n) r (b lo n (record { here = h.here; ends = h.ends ∙ sym same })) (λ j l. refl) (omega arith) (is n)
 
 -- a node that stays as it is
-pub left_alone : (st : List ℕ) (p : Parser) (a : ℕ) (f : Node → Parsed Node) → ((n : Node) → f n ≡ made n p) → BuildsOne st st p a f (ParsedNode.Node a p)
+pub left_alone : (st : List ℕ) (p : Parser) (a : ℕ) (f : Node → Parsed Node) → ((n : Node) → f n ≡ made n p) → BuildsOne st st p a f (Ok (record { node = a; after = p }))
 left_alone st p a f is lo n h = record { tree = n; is = is n; held = h.here; last = h.ends; kept = λ j l. refl }
 
 -- no token is a leaf of an operand

@@ -1,11 +1,10 @@
 -- The ways through the parser's arms: what each gives where its operands are known.
 -- Assumes nothing.
 use mathlib.Core.Path.{◌≡◌, refl, ap}
-use mathlib.Core.Bool.{Bool, true, false}
+use mathlib.Core.Bool.{true, false}
 use mathlib.Core.List.{List}
-use mathlib.Core.Option.{Option, none, some}
+use Rattle.std.specs.Prelude.{Some, None, ◌≢◌}
 use Prim.Native.Nat.{ℕ, zero, suc, ◌-◌, ◌≤◌, ◌<◌}
-use lib.Dec.{lit≤}
 use native.Mathlib.Omega.{arith}
 use lib.ListN.{length}
 use Rattle.text.specs.Text.{part}
@@ -14,21 +13,20 @@ use Rattle.attribute.specs.declared.Variant.{Variant}
 use Rattle.error.specs.declared.Refusal.{Refusal}
 use Rattle.token.specs.declared.Token.{Token}
 use Rattle.token.specs.declared.Mark.{Mark}
-use Rattle.token.specs.Roles.{mark_number, token_is, paren_of, fence_of}
+use Rattle.token.specs.Roles.{token_is, paren_of, fence_of}
 use Rattle.ast.specs.declared.Leaf.{Leaf}
 use Rattle.ast.specs.declared.One.{One}
 use Rattle.ast.specs.declared.Two.{Two}
 use Rattle.ast.specs.Tree.{Node, leaf, one, two, empty, set_variant}
 use Rattle.parser.specs.declared.Parser.{Parser}
 use Rattle.parser.specs.declared.TextRead.{TextRead}
-use Rattle.parser.specs.declared.Fence.{Fence}
-use Rattle.parser.specs.declared.Script.{Script}
+use Rattle.parser.specs.declared.Side.{Side}
 use Rattle.parser.specs.declared.Pair.{Pair}
 use Rattle.parser.specs.declared.Limits.{Limits}
 use Rattle.parser.specs.State.{next, cur_is, peek_is, parse_text}
 use Rattle.parser.specs.Environment.{environment}
 use Rattle.parser.specs.Parse.{made, refused, Reads, ◌>>=◌, build, group_up_to, parse_group, parse_sqrt, of_pair, parse_two, parse_one, parse_brace, operator, parse_limits, parse_lim, parse_slashed, parse_style, with_fence, fenced, parse_left, stretch, stretched, parse_middle, sized, parse_big, opened, in_environment, parse_begin, parse_text_leaf, parse_bare, primed, single_step, sub_sup, both_scripts, parse_second, parse_scripts, node_step, parse_node, parse_single_node}
-use Rattle.parser.specs.Marks.{fence, script_of, script_kind, repeats, other_limit}
+use Rattle.parser.specs.Marks.{script_of, script_kind, repeats, other_limit}
 use Rattle.parser.specs.Built.{with_limit, with_limits}
 use Rattle.parser.proofs.MarkLaws.{no_script}
 
@@ -123,11 +121,11 @@ module _ (node : Reads) (s : List ℕ) (p : Parser) {b : Parser} (e : b ≡ next
     slashed_is h f = rw (← e, ← e', h, ← f)
 
   -- fences
-  pub left_no : fence_of b.cur.token ≡ none → parse_left node s p ≡ refused Refusal.MissingParensethis
+  pub left_no : fence_of b.cur.token ≡ None → parse_left node s p ≡ refused Refusal.MissingParensethis
   unfolding parse_left with_fence
   left_no f = rw (parse_left, ← e, f)
 
-  module _ {t : ℕ} (f : fence_of b.cur.token ≡ some t) where
+  module _ {t : ℕ} (f : fence_of b.cur.token ≡ Some t) where
     pub left_no_2 : {r : Refusal} → parse_group node s Mark.Right b ≡ refused r → parse_left node s p ≡ refused r
     unfolding parse_left with_fence ◌>>=◌
     left_no_2 h = rw (parse_left, ← e, f, h)
@@ -164,17 +162,6 @@ module _ (single : Reads) (s : List ℕ) (p : Parser) where
 
 -- ---- the tower, and the prime
 
--- a token that the code finds to be no fence, or one with the text t
-pub fence_none : (o : Option ℕ) → fence o ≡ Fence.Missing → o ≡ none
-unfolding fence
-fence_none none e = refl
-fence_none (some t) e = never cc
-
-pub fence_some : (o : Option ℕ) {t : ℕ} → fence o ≡ Fence.Fixed t → o ≡ some t
-unfolding fence
-fence_some none e = never cc
-fence_some (some u) e = ap (λ x. some x) cc
-
 -- a sized parenthesis and a leaf with a text
 pub big_is : (s : List ℕ) (size : ℕ) (p : Parser) {b : Parser} → b ≡ next s p → parse_big s size p ≡ sized size (paren_of b.cur.token) b
 unfolding parse_big
@@ -186,18 +173,18 @@ unfolding parse_text_leaf
 text_is s kind p e f = rw (parse_text_leaf, ← e, ← f)
 
 -- the mark of a script below or above
-abbrev script_mark : Bool → Mark
-script_mark true = Mark.Circumflex
-script_mark false = Mark.Underscore
+abbrev script_mark : Side → Mark
+script_mark Side.Under = Mark.Underscore
+script_mark Side.Over = Mark.Circumflex
 
-script_mark_lem : (t : Token) (over : Bool) → script_of t ≡ Script.Operand over → token_is t (script_mark over) ≡ true
+script_mark_lem : (t : Token) (side : Side) → script_of t ≡ Some side → token_is t (script_mark side) ≡ true
 unfolding script_of
-script_mark_lem t over e =
+script_mark_lem t side e =
     by_test (token_is t Mark.Underscore)
-    (λ x. let f = rw (script_of, x) at e in let g : false ≡ over = cc in rw (← g) x)
+    (λ x. let f = rw (script_of, x) at e in let g : Side.Under ≡ side = cc in rw (← g) x)
     (λ x.
     by_test (token_is t Mark.Circumflex)
-    (λ y. let f = rw (script_of, x, y) at e in let g : true ≡ over = cc in rw (← g) y)
+    (λ y. let f = rw (script_of, x, y) at e in let g : Side.Over ≡ side = cc in rw (← g) y)
     (λ y. let f = rw (script_of, x, y) at e in never cc))
 
 module _ (single : Reads) (s : List ℕ) (p : Parser) where
@@ -210,94 +197,94 @@ module _ (single : Reads) (s : List ℕ) (p : Parser) where
   node_is h = rw h
 
   -- behind a base no mark is next, and behind a base with one script none or the same
-  pub scripts_none : script_of p.peek.token ≡ Script.Neither → (a : Node) → parse_scripts single s (script_of p.peek.token) a p ≡ made a p
+  pub scripts_none : script_of p.peek.token ≡ None → (a : Node) → parse_scripts single s (script_of p.peek.token) a p ≡ made a p
   unfolding parse_scripts
   scripts_none f a = rw f
 
-  pub second_none : (over : Bool) → script_of p.peek.token ≡ Script.Neither → (a x : Node)
-      → parse_second single s over (script_of p.peek.token) a x p ≡ build 1 (two (script_kind over) a x) p
+  pub second_none : (side : Side) → script_of p.peek.token ≡ None → (a x : Node)
+      → parse_second single s side (script_of p.peek.token) a x p ≡ build 1 (two (script_kind side) a x) p
   unfolding parse_second
-  second_none over f a x = rw f
+  second_none side f a x = rw f
 
-  pub second_again : (over again : Bool) → script_of p.peek.token ≡ Script.Operand again → repeats over again ≡ true → (a x : Node)
-      → parse_second single s over (script_of p.peek.token) a x p ≡ refused Refusal.RepeatedMark
+  pub second_again : (side again : Side) → script_of p.peek.token ≡ Some again → repeats side again ≡ true → (a x : Node)
+      → parse_second single s side (script_of p.peek.token) a x p ≡ refused Refusal.RepeatedMark
   unfolding parse_second
-  second_again over again f h a x = rw (f, parse_second, h)
+  second_again side again f h a x = rw (f, parse_second, h)
 
-  module _ {b c : Parser} (e : b ≡ next s p) (g : c ≡ next s b) (over : Bool) where
+  module _ {b c : Parser} (e : b ≡ next s p) (g : c ≡ next s b) (side : Side) where
     -- behind a base a mark is next
-    module _ (f : script_of p.peek.token ≡ Script.Operand over) where
+    module _ (f : script_of p.peek.token ≡ Some side) where
       pub scripts_no : {r : Refusal} → single c ≡ refused r → (a : Node) → parse_scripts single s (script_of p.peek.token) a p ≡ refused r
       unfolding parse_scripts ◌>>=◌
       scripts_no k a = rw (f, ← e, ← g, k)
 
       pub scripts_is : {x : Node} {q : Parser} → single c ≡ made x q → (a : Node)
-          → parse_scripts single s (script_of p.peek.token) a p ≡ parse_second single s over (script_of q.peek.token) a x q
+          → parse_scripts single s (script_of p.peek.token) a p ≡ parse_second single s side (script_of q.peek.token) a x q
       unfolding parse_scripts ◌>>=◌
       scripts_is k a = rw (f, ← e, ← g, k)
 
     -- behind a base with one script the other mark is next
-    module _ (again : Bool) (f : script_of p.peek.token ≡ Script.Operand again) (h : repeats over again ≡ false) where
-      pub second_no : {r : Refusal} → single c ≡ refused r → (a x : Node) → parse_second single s over (script_of p.peek.token) a x p ≡ refused r
+    module _ (again : Side) (f : script_of p.peek.token ≡ Some again) (h : repeats side again ≡ false) where
+      pub second_no : {r : Refusal} → single c ≡ refused r → (a x : Node) → parse_second single s side (script_of p.peek.token) a x p ≡ refused r
       unfolding parse_second ◌>>=◌
       second_no k a x = rw (f, parse_second, h, ← e, ← g, k)
 
       pub second_is : {y : Node} {q : Parser} → single c ≡ made y q → (a x : Node)
-          → parse_second single s over (script_of p.peek.token) a x p ≡ both_scripts (script_of q.peek.token) (sub_sup over a x y) q
+          → parse_second single s side (script_of p.peek.token) a x p ≡ both_scripts (script_of q.peek.token) (sub_sup side a x y) q
       unfolding parse_second ◌>>=◌
       second_is k a x = rw (f, parse_second, h, ← e, ← g, k)
 
 -- ---- limits
 
-script_below : (t : Token) → script_of t ≡ Script.Operand false → token_is t Mark.Underscore ≡ true
-script_below t e = script_mark_lem t false e
+script_below : (t : Token) → script_of t ≡ Some Side.Under → token_is t Mark.Underscore ≡ true
+script_below t e = script_mark_lem t Side.Under e
 
-script_above : (t : Token) → script_of t ≡ Script.Operand true → (token_is t Mark.Underscore ≡ false) × (token_is t Mark.Circumflex ≡ true)
+script_above : (t : Token) → script_of t ≡ Some Side.Over → (token_is t Mark.Underscore ≡ false) × (token_is t Mark.Circumflex ≡ true)
 unfolding script_of
 script_above t e =
     by_test (token_is t Mark.Underscore)
     (λ x. let f = rw (script_of, x) at e in never cc)
-    (λ x. (x, script_mark_lem t true e))
+    (λ x. (x, script_mark_lem t Side.Over e))
 
 module _ (single : Reads) (s : List ℕ) (kind : Limits) (p : Parser) where
-  pub limits_alone : script_of p.peek.token ≡ Script.Neither → parse_limits single s kind p ≡ build 1 (operator kind) p
+  pub limits_alone : script_of p.peek.token ≡ None → parse_limits single s kind p ≡ build 1 (operator kind) p
   unfolding parse_limits
   limits_alone f =
       let g = no_script p.peek.token f in
       rw (parse_limits, g.0, g.1)
 
   module _ {b c : Parser} (e : b ≡ next s p) (g : c ≡ next s b) where
-    pub limits_no : {r : Refusal} (over : Bool) → script_of p.peek.token ≡ Script.Operand over → single c ≡ refused r → parse_limits single s kind p ≡ refused r
+    pub limits_no : {r : Refusal} (side : Side) → script_of p.peek.token ≡ Some side → single c ≡ refused r → parse_limits single s kind p ≡ refused r
     unfolding parse_limits ◌>>=◌
-    limits_no true f h =
+    limits_no Side.Over f h =
         let m = script_above p.peek.token f in
         rw (parse_limits, m.0, m.1, rw (g, e) at h)
-    limits_no false f h = rw (parse_limits, script_below p.peek.token f, rw (g, e) at h)
+    limits_no Side.Under f h = rw (parse_limits, script_below p.peek.token f, rw (g, e) at h)
 
     module _ {x : Node} {q : Parser} (h : single c ≡ made x q) where
-      pub limit_is : (over : Bool) → script_of p.peek.token ≡ Script.Operand over → peek_is q (other_limit over) ≡ false → parse_limits single s kind p ≡ with_limit over kind x q
+      pub limit_is : (side : Side) → script_of p.peek.token ≡ Some side → peek_is q (other_limit side) ≡ false → parse_limits single s kind p ≡ with_limit side kind x q
       unfolding parse_limits ◌>>=◌
-      limit_is true f k =
+      limit_is Side.Over f k =
           let m = script_above p.peek.token f in
           rw (parse_limits, m.0, m.1, rw (g, e) at h, ◌>>=◌, k)
-      limit_is false f k = rw (parse_limits, script_below p.peek.token f, rw (g, e) at h, ◌>>=◌, k)
+      limit_is Side.Under f k = rw (parse_limits, script_below p.peek.token f, rw (g, e) at h, ◌>>=◌, k)
 
       module _ {b' c' : Parser} (e' : b' ≡ next s q) (g' : c' ≡ next s b') where
-        pub limits_no_2 : {r : Refusal} (over : Bool) → script_of p.peek.token ≡ Script.Operand over → peek_is q (other_limit over) ≡ true → single c' ≡ refused r
+        pub limits_no_2 : {r : Refusal} (side : Side) → script_of p.peek.token ≡ Some side → peek_is q (other_limit side) ≡ true → single c' ≡ refused r
             → parse_limits single s kind p ≡ refused r
         unfolding parse_limits ◌>>=◌
-        limits_no_2 true f k h' =
+        limits_no_2 Side.Over f k h' =
             let m = script_above p.peek.token f in
             rw (parse_limits, m.0, m.1, rw (g, e) at h, ◌>>=◌, k, rw (g', e') at h')
-        limits_no_2 false f k h' = rw (parse_limits, script_below p.peek.token f, rw (g, e) at h, ◌>>=◌, k, rw (g', e') at h')
+        limits_no_2 Side.Under f k h' = rw (parse_limits, script_below p.peek.token f, rw (g, e) at h, ◌>>=◌, k, rw (g', e') at h')
 
-        pub limits_is : {y : Node} {q' : Parser} (over : Bool) → script_of p.peek.token ≡ Script.Operand over → peek_is q (other_limit over) ≡ true → single c' ≡ made y q'
-            → parse_limits single s kind p ≡ with_limits over kind x y q'
+        pub limits_is : {y : Node} {q' : Parser} (side : Side) → script_of p.peek.token ≡ Some side → peek_is q (other_limit side) ≡ true → single c' ≡ made y q'
+            → parse_limits single s kind p ≡ with_limits side kind x y q'
         unfolding parse_limits ◌>>=◌
-        limits_is true f k h' =
+        limits_is Side.Over f k h' =
             let m = script_above p.peek.token f in
             rw (parse_limits, m.0, m.1, rw (g, e) at h, ◌>>=◌, k, rw (g', e') at h')
-        limits_is false f k h' = rw (parse_limits, script_below p.peek.token f, rw (g, e) at h, ◌>>=◌, k, rw (g', e') at h')
+        limits_is Side.Under f k h' = rw (parse_limits, script_below p.peek.token f, rw (g, e) at h, ◌>>=◌, k, rw (g', e') at h')
 
 -- ---- the tower
 
@@ -345,10 +332,9 @@ unfolding primed
 prime_none s n p f = rw (primed, f)
 
 -- the mark of the other limit takes a byte
-pub other_byte : (over : Bool) → 1 ≤ mark_number (other_limit over)
-unfolding mark_number
-other_byte true = lit≤ tt
-other_byte false = lit≤ tt
+pub other_byte : (side : Side) → other_limit side ≢ Mark.EOF
+other_byte Side.Under e = never cc
+other_byte Side.Over e = never cc
 
 pub group_is : (node : Reads) (s : List ℕ) (end : Mark) (p : Parser) {b : Parser} → b ≡ next s p → parse_group node s end p ≡ group_up_to node s end (suc (length s)) b empty
 unfolding parse_group

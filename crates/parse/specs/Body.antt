@@ -1,6 +1,6 @@
 -- The nodes of a body in a lent store.
 -- Assumes nothing.
-use Rattle.std.specs.Prelude.{◌≡◌, true, false, List, ℕ, ◌*◌, ◌/◌, ◌≤◌, ltb, length}
+use Rattle.std.specs.Prelude.{◌≡◌, true, false, List, ℕ, ◌*◌, ◌/◌, ◌≤◌, ltb, length, Result, Ok, Err}
 use Rattle.error.specs.declared.Refusal.{Refusal}
 use Rattle.ast.specs.Tree.{Nodes, sizes}
 use Rattle.ast.specs.Held.{count, HoldsAll}
@@ -34,6 +34,6 @@ pub record StoresBody (s st' : List ℕ) (want : Parsed Nodes) (first n hi : ℕ
   pub fits : hi * 24 ≤ length st'
 
 -- the answer where such nodes are wanted
-abbrev pub BodyAnswers : List ℕ → List ℕ → Parsed Nodes → ParsedNodes → Type 0
-BodyAnswers s st' want (ParsedNodes.Nodes first n hi) = StoresBody s st' want first n hi
-BodyAnswers s st' want (ParsedNodes.Refused r) = want ≡ refused r
+abbrev pub BodyAnswers : List ℕ → List ℕ → Parsed Nodes → Result ParsedNodes Refusal → Type 0
+BodyAnswers s st' want (Ok ns) = StoresBody s st' want ns.first ns.count ns.made
+BodyAnswers s st' want (Err r) = want ≡ refused r

@@ -2,11 +2,10 @@
 -- Assumes nothing.
 use mathlib.Core.Path.{◌≡◌}
 use mathlib.Core.List.{List}
-use mathlib.Core.Option.{Option, none, some}
+use Rattle.std.specs.Prelude.{Option, Some, None}
 use Prim.Native.Nat.{ℕ, ◌+◌, ◌*◌, ◌≤◌}
 use native.Mathlib.Nat.{add_comm}
 use native.Mathlib.Omega.{arith}
-use lib.Dec.{lit≤}
 use lib.ListN.{length}
 use Rattle.text.proofs.Cases.{by_test, never}
 use Rattle.attribute.specs.declared.Variant.{Variant}
@@ -14,7 +13,6 @@ use Rattle.token.specs.declared.Token.{Token}
 use Rattle.token.specs.declared.Token.TheVariants.{EOF, Begin, End, Ampersand, NewLine, Left, Right, Middle, Paren, LBrace, RBrace, Frac, Underscore, Circumflex, Binom, Overset, Underset, Overbrace, Underbrace, Sqrt, Integral, Lim, Space, Style, Big, Over, Under, Operator, BigOp, Letter, Number, Function, OperatorName, Slashed, Text, Command}
 use Rattle.token.specs.declared.Mark.{Mark}
 use Rattle.token.specs.declared.Undefined.{Undefined}
-use Rattle.token.specs.declared.Binomial.{Binomial}
 use Rattle.token.specs.Roles.{mark_number, paren_of, fence_of}
 use Rattle.ast.specs.declared.Stretched.{Stretched}
 use Rattle.ast.specs.declared.Leaf.{Leaf}
@@ -52,8 +50,8 @@ module _ {s : List ℕ} (p r : Parser) (m : Node) (q : Parser) where
       → of_pair kind a b r ≡ made m q → Kept s p m q
   unfolding of_pair binomial size sizes
   of_pair_lem Pair.Frac a b h x y e = finished _ 1 h (omega arith) (omega arith) (x, y) e
-  of_pair_lem (Pair.Binom Binomial.Plain) a b h x y e = finished _ 2 h (omega arith) (omega arith) (x, y) e
-  of_pair_lem (Pair.Binom (Binomial.Styled d)) a b h x y e = finished _ 4 h (omega arith) (omega arith) ((x, y), tt) e
+  of_pair_lem (Pair.Binom None) a b h x y e = finished _ 2 h (omega arith) (omega arith) (x, y) e
+  of_pair_lem (Pair.Binom (Some d)) a b h x y e = finished _ 4 h (omega arith) (omega arith) ((x, y), tt) e
   of_pair_lem Pair.Overset a b h x y e = finished _ 1 h (omega arith) (omega arith) (y, x) e
   of_pair_lem Pair.Underset a b h x y e = finished _ 1 h (omega arith) (omega arith) (y, x) e
 
@@ -78,28 +76,28 @@ module _ {s : List ℕ} (p r : Parser) (m : Node) (q : Parser) where
   alone (Limits.BigOp c) h e = finished _ 1 h (omega arith) (omega arith) tt e
   alone (Limits.Integral c) h e = finished _ 1 h (omega arith) (omega arith) tt e
 
-  in_environment_lem : (env : Environment) (ns : Nodes) → Paid s p r 2 (sizes ns) → AllInside (length s) ns → in_environment env ns r ≡ made m q → Kept s p m q
+  in_environment_lem : (env : Option Environment) (ns : Nodes) → Paid s p r 2 (sizes ns) → AllInside (length s) ns → in_environment env ns r ≡ made m q → Kept s p m q
   unfolding in_environment size
-  in_environment_lem Environment.Unknown ns h x e = never (cc)
-  in_environment_lem (Environment.Bare align) ns h x e = finished _ 1 h (omega arith) (omega arith) x e
-  in_environment_lem (Environment.Between t u) ns h x e = finished _ 2 h (omega arith) (omega arith) x e
+  in_environment_lem None ns h x e = never (cc)
+  in_environment_lem (Some (Environment.Bare align)) ns h x e = finished _ 1 h (omega arith) (omega arith) x e
+  in_environment_lem (Some (Environment.Between t u)) ns h x e = finished _ 2 h (omega arith) (omega arith) x e
 
   stretches : (o : Option Stretched) → Paid s p r 1 0 → stretched o r ≡ made m q → Kept s p m q
   unfolding stretched size
-  stretches none h e = never (cc)
-  stretches (some o) h e = finished _ 1 h (omega arith) (omega arith) tt e
+  stretches None h e = never (cc)
+  stretches (Some o) h e = finished _ 1 h (omega arith) (omega arith) tt e
 
   sizes_paren : (z : ℕ) (o : Option ℕ) → Paid s p r 1 0 → sized z o r ≡ made m q → Kept s p m q
   unfolding sized size
-  sizes_paren z none h e = never (cc)
-  sizes_paren z (some t) h e = finished _ 1 h (omega arith) (omega arith) tt e
+  sizes_paren z None h e = never (cc)
+  sizes_paren z (Some t) h e = finished _ 1 h (omega arith) (omega arith) tt e
 
 -- ---- a fence
 
 with_fence_lem : {P : Type 0} {m : Node} {q : Parser} (o : Option ℕ) (k : ℕ → Parsed Node) → with_fence o k ≡ made m q → ((t : ℕ) → k t ≡ made m q → P) → P
 unfolding with_fence
-with_fence_lem none k e f = never (cc)
-with_fence_lem (some t) k e f = f t e
+with_fence_lem None k e f = never (cc)
+with_fence_lem (Some t) k e f = f t e
 
 -- ---- the arms
 
@@ -112,7 +110,7 @@ module _ {s : List ℕ} {node single : Reads} (nodes : Keeps s node) (singles : 
   pub braces_kept : parse_group node s Mark.RBrace p ≡ made m q → Kept s p m q
   unfolding mark_number next
   braces_kept e =
-      let g = group_kept nodes Mark.RBrace (lit≤ tt) p m q h e in
+      let g = group_kept nodes Mark.RBrace (λ e. never cc) p m q h e in
       record { sound = g.sound; on = omega arith; spent = omega arith; size = g.size; inside = g.inside }
 
   module _ (wide : p.cur.start + 3 ≤ p.cur.end) where
@@ -130,7 +128,7 @@ module _ {s : List ℕ} {node single : Reads} (nodes : Keeps s node) (singles : 
         (λ t.
         by_parts _ _ (rw (parse_sqrt, t) at e)
         (λ degree r first rest.
-        let g = group_kept nodes Mark.RBracket (lit≤ tt) (next s p) degree r one first in
+        let g = group_kept nodes Mark.RBracket (λ e. never cc) (next s p) degree r one first in
         let end = g.sound in
         by_parts _ _ rest
         (λ content z second last.
@@ -271,7 +269,7 @@ module _ {s : List ℕ} {node single : Reads} (nodes : Keeps s node) (singles : 
         with_fence_lem (fence_of (next s r).cur.token) _ rest
         (λ close-fence last.
         let one = first_behind in
-        let g = group_kept nodes Mark.Right (lit≤ tt) (next s p) x r one first in
+        let g = group_kept nodes Mark.Right (λ e. never cc) (next s p) x r one first in
         let end = next_sound s r g.sound in
         built s p (next s r) 1 _ m q last end (omega arith) (omega arith) (omega arith) g.inside)))
 
@@ -297,7 +295,7 @@ module _ {s : List ℕ} {node single : Reads} (nodes : Keeps s node) (singles : 
         (λ x r first rest.
         let name = text_sound s (next s p) first_behind in
         let low = name.sound in
-        let g = group_kept nodes Mark.End (lit≤ tt) (parse_text s (next s p)).after x r low first in
+        let g = group_kept nodes Mark.End (λ e. never cc) (parse_text s (next s p)).after x r low first in
         let read = text_sound s (next s r) (next_sound s r g.sound) in
         let end = read.sound in
         let behind = g.sound in

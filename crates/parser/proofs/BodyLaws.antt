@@ -1,11 +1,11 @@
 -- What the parser reads of a body is paid for by its bytes, at any depth; and no budget of a loop runs out.
 -- Assumes nothing.
 use mathlib.Core.Path.{◌≡◌, refl}
-use mathlib.Core.Bool.{Bool, true, false}
+use mathlib.Core.Bool.{false}
 use mathlib.Core.List.{List}
+use Rattle.std.specs.Prelude.{Option, Some, None}
 use Prim.Native.Nat.{ℕ, zero, suc, ◌+◌, ◌*◌, ◌≤◌, ◌<◌}
 use native.Mathlib.Omega.{arith}
-use lib.Dec.{lit≤}
 use lib.ListN.{length}
 use Rattle.text.proofs.Cases.{by_test, never}
 use Rattle.error.specs.declared.Refusal.{Refusal}
@@ -15,7 +15,7 @@ use Rattle.token.specs.Roles.{mark_number, token_is}
 use Rattle.ast.specs.Tree.{Node, Nodes, empty, snoc, size, sizes}
 use Rattle.ast.specs.Inside.{TreeInside, AllInside}
 use Rattle.parser.specs.declared.Parser.{Parser}
-use Rattle.parser.specs.declared.Script.{Script}
+use Rattle.parser.specs.declared.Side.{Side}
 use Rattle.parser.specs.State.{next, new, cur_is, peek_is}
 use Rattle.parser.specs.Parse.{Parsed, made, refused, Reads, ◌>>=◌, group_up_to, primed, single_step, sub_sup, both_scripts, parse_second, parse_scripts, node_step, parse_node, parse_single_node, nodes_up_to, parse}
 use Rattle.parser.specs.Marks.{script_of, repeats}
@@ -25,25 +25,25 @@ use Rattle.parser.proofs.KeepLaws.{by_parts, given, operand, built, Rowing, rowi
 use Rattle.parser.proofs.ArmLaws.{bare_kept}
 
 -- the mark of a script takes a byte
-pub script_byte : (t : Token) (over : Bool) → script_of t ≡ Script.Operand over → 1 ≤ least t
+pub script_byte : (t : Token) (side : Side) → script_of t ≡ Some side → 1 ≤ least t
 unfolding script_of mark_number
-script_byte t over e =
+script_byte t side e =
     by_test (token_is t Mark.Underscore)
-    (λ x. mark_byte t Mark.Underscore (lit≤ tt) x)
+    (λ x. mark_byte t Mark.Underscore (λ e. never cc) x)
     (λ x.
     by_test (token_is t Mark.Circumflex)
-    (λ y. mark_byte t Mark.Circumflex (lit≤ tt) y)
+    (λ y. mark_byte t Mark.Circumflex (λ e. never cc) y)
     (λ y. let f = rw (script_of, x, y) at e in never cc))
 
-sub_sup_size : (over : Bool) (a b c : Node) → size (sub_sup over a b c) ≡ size a + (size b + size c) + 1
+sub_sup_size : (side : Side) (a b c : Node) → size (sub_sup side a b c) ≡ size a + (size b + size c) + 1
 unfolding sub_sup size
-sub_sup_size true a b c = omega arith
-sub_sup_size false a b c = omega arith
+sub_sup_size Side.Under a b c = omega arith
+sub_sup_size Side.Over a b c = omega arith
 
-sub_sup_inside : (n : ℕ) (over : Bool) (a b c : Node) → TreeInside n a → TreeInside n b → TreeInside n c → TreeInside n (sub_sup over a b c)
+sub_sup_inside : (n : ℕ) (side : Side) (a b c : Node) → TreeInside n a → TreeInside n b → TreeInside n c → TreeInside n (sub_sup side a b c)
 unfolding sub_sup
-sub_sup_inside n true a b c x y z = (x, z, y)
-sub_sup_inside n false a b c x y z = (x, y, z)
+sub_sup_inside n Side.Under a b c x y z = (x, y, z)
+sub_sup_inside n Side.Over a b c x y z = (x, z, y)
 
 module _ {s : List ℕ} {node single : Reads} (nodes : Keeps s node) (singles : Keeps s single) where
   -- ---- parse_single_node and parse_node over the level below
@@ -57,46 +57,46 @@ module _ {s : List ℕ} {node single : Reads} (nodes : Keeps s node) (singles : 
       let k = bare_kept nodes singles p n r h p.cur.token h.cur.wide h.cur.places first in
       by_test (peek_is r Mark.Prime)
       (λ t.
-      let byte = mark_byte r.peek.token Mark.Prime (lit≤ tt) t in
+      let byte = mark_byte r.peek.token Mark.Prime (λ e. never cc) t in
       let behind = next_sound s r k.sound in
       built s p (next s r) 2 _ m q (rw (primed, t) at rest) behind (omega arith) (omega arith) (omega arith) (k.inside, tt))
       (λ t. given (Kept s p) (rw (primed, t) at rest) k))
 
   -- the marks before the scripts of a base pay for the one record made of them and for missing operands
-  module _ (p : Parser) (n : Node) (r : Parser) (m : Node) (q : Parser) (k : Kept s p n r) (over : Bool) (mark : script_of r.peek.token ≡ Script.Operand over)
+  module _ (p : Parser) (n : Node) (r : Parser) (m : Node) (q : Parser) (k : Kept s p n r) (side : Side) (mark : script_of r.peek.token ≡ Some side)
       (x : Node) (z : Parser) (first : single (next s (next s r)) ≡ made x z) where
-    both_kept : (again : Bool) → script_of z.peek.token ≡ Script.Operand again → (script : Script) (y : Node) (w : Parser)
-        → single (next s (next s z)) ≡ made y w → both_scripts script (sub_sup over n x y) w ≡ made m q → Kept s p m q
+    both_kept : (again : Side) → script_of z.peek.token ≡ Some again → (script : Option Side) (y : Node) (w : Parser)
+        → single (next s (next s z)) ≡ made y w → both_scripts script (sub_sup side n x y) w ≡ made m q → Kept s p m q
     unfolding both_scripts next
-    both_kept again mark' (Script.Operand third) y w second e = never cc
-    both_kept again mark' Script.Neither y w second e =
-        let byte = script_byte r.peek.token over mark in
+    both_kept again mark' (Some third) y w second e = never cc
+    both_kept again mark' None y w second e =
+        let byte = script_byte r.peek.token side mark in
         let one = next_sound s r k.sound in
         let a = operand singles (next_sound s (next s r) one) first in
         let byte' = script_byte z.peek.token again mark' in
         let two = next_sound s z a.sound in
         let b = operand singles (next_sound s (next s z) two) second in
-        let few = sub_sup_size over n x y in
-        built s p w 1 _ m q e b.sound (omega arith) (omega arith) (omega arith) (sub_sup_inside (length s) over n x y k.inside a.inside b.inside)
+        let few = sub_sup_size side n x y in
+        built s p w 1 _ m q e b.sound (omega arith) (omega arith) (omega arith) (sub_sup_inside (length s) side n x y k.inside a.inside b.inside)
 
-    second_kept : (script : Script) → script_of z.peek.token ≡ script → parse_second single s over script n x z ≡ made m q → Kept s p m q
+    second_kept : (script : Option Side) → script_of z.peek.token ≡ script → parse_second single s side script n x z ≡ made m q → Kept s p m q
     unfolding parse_second next size
-    second_kept Script.Neither none e =
-        let byte = script_byte r.peek.token over mark in
+    second_kept None none e =
+        let byte = script_byte r.peek.token side mark in
         let one = next_sound s r k.sound in
         let a = operand singles (next_sound s (next s r) one) first in
         built s p z 1 _ m q e a.sound (omega arith) (omega arith) (omega arith) (k.inside, a.inside)
-    second_kept (Script.Operand again) mark' e =
-        by_test (repeats over again)
+    second_kept (Some again) mark' e =
+        by_test (repeats side again)
         (λ t. let f = rw (parse_second, t) at e in never cc)
         (λ t. by_parts _ _ (rw (parse_second, t) at e) (λ y w second rest. both_kept again mark' (script_of w.peek.token) y w second rest))
 
-  scripts_kept : (p : Parser) (n : Node) (r : Parser) (m : Node) (q : Parser) → Kept s p n r → (script : Script) → script_of r.peek.token ≡ script
+  scripts_kept : (p : Parser) (n : Node) (r : Parser) (m : Node) (q : Parser) → Kept s p n r → (script : Option Side) → script_of r.peek.token ≡ script
       → parse_scripts single s script n r ≡ made m q → Kept s p m q
   unfolding parse_scripts
-  scripts_kept p n r m q k Script.Neither none e = given (Kept s p) e k
-  scripts_kept p n r m q k (Script.Operand over) mark e =
-      by_parts _ _ e (λ x z first rest. second_kept p n r m q k over mark x z first (script_of z.peek.token) refl rest)
+  scripts_kept p n r m q k None none e = given (Kept s p) e k
+  scripts_kept p n r m q k (Some side) mark e =
+      by_parts _ _ e (λ x z first rest. second_kept p n r m q k side mark x z first (script_of z.peek.token) refl rest)
 
   pub node_step_keeps : Keeps s (node_step single s)
   unfolding node_step

@@ -1,29 +1,26 @@
 -- The letters of a text are compared with a name one by one, and the first name that they spell gives the environment.
 -- Assumes nothing.
-use mathlib.Core.Path.{◌≡◌, refl, ap, ◌∙◌}
-use mathlib.Core.Bool.{true, false}
+use mathlib.Core.Path.{◌≡◌, refl, sym, ap, ◌∙◌}
+use mathlib.Core.Bool.{Bool, true, false, not, false≢true}
 use mathlib.Core.List.{List}
 use mathlib.Core.List as L
-use mathlib.Core.Option.{none}
 use Prim.Native.Nat.{ℕ, ◌+◌, ◌-◌, ◌≤◌, ◌<◌, zero-le}
 use Prim.Native.Char.{code}
 use Prim.Native.String.{String, [], ◌∷◌}
 use native.Mathlib.Omega.{arith}
 use native.Mathlib.Numerals.{add-one}
 use lib.Dec.{eqb}
-use lib.ListN.{length, take, drop, get_or, drop_of_length-le}
+use lib.ListN.{length, drop, get_or, drop_of_length-le}
 use lib.Seq.{drop-cons}
 use borrow.Author.Tests.{eq-eqb, ne_eqb}
 use Rattle.text.proofs.Cases.{by_order}
-use Rattle.attribute.specs.declared.Variant.{Variant}
-use Rattle.token.specs.declared.Token.{Token}
-use Rattle.token.specs.Roles.{letter_of}
 use Rattle.token.specs.Spell.{Arm, spells, first}
 use Rattle.token.specs.Key.{codes}
-use Rattle.lexer.specs.declared.Lexeme.{Lexeme}
-use Rattle.lexer.specs.Lex.{next_token}
+use Rattle.std.specs.Prelude.{Option, Some, None, is_some}
+use Rattle.lexer.specs.declared.letters.Letter.{Letter}
 use Rattle.lexer.specs.Letters.{letters_within, letters}
-use Rattle.lexer.proofs.LettersLaws.{letters_end, letters_on, letter_inside}
+use Rattle.lexer.specs.LetterAt.{LetterAt}
+use Rattle.lexer.proofs.LettersLaws.{within_none, letters_on}
 use Rattle.parser.specs.Environment.{same}
 
 -- no letters are the part of a name from k on where that is its end
@@ -45,36 +42,39 @@ pub comparing_none : (t name : List ℕ) → Comparing t name 0 0
 unfolding letters
 comparing_none t name = record { budget = length t; enough = omega arith; inside = zero-le; short = zero-le; is = refl }
 
-module _ {t name : List ℕ} {i k : ℕ} (w : Comparing t name i k) (x : Lexeme) (read : x ≡ next_token 0 (take (length t - i) (drop i t))) where
+module _ {t name : List ℕ} {i k : ℕ} (w : Comparing t name i k) where
   -- where the next token is no letter, the name must end too
-  pub comparing_end : letter_of x.token ≡ none → same (letters t) name ≡ eqb k (length name)
-  comparing_end e = w.is ∙ rw (letters_end w.budget t i x read e) (same_end name k w.short)
+  comparing_end : LetterAt t i None → same (letters t) name ≡ eqb k (length name)
+  comparing_end none_here = w.is ∙ rw (within_none w.budget (drop i t) none_here) (same_end name k w.short)
 
-  module _ (c : ℕ) (v : Variant) (e : x.token ≡ Token.Letter c v) where
-    pub more_inside : (i < i + x.end) × (i + x.end ≤ length t)
-    more_inside = letter_inside t i w.inside x read c v e
+  pub comparing_short : LetterAt t i None → k < length name → same (letters t) name ≡ false
+  comparing_short none_here h = comparing_end none_here ∙ ne_eqb k (length name) (λ z. omega arith)
 
-    split : same (letters t) name ≡ same (L.◌∷◌ c (letters_within (w.budget - 1) (drop (i + x.end) t))) (drop k name)
-    split = w.is ∙ rw (letters_on t i w.inside x read c v e w.budget w.enough)
+  module _ (l : Letter) (here : LetterAt t i (Some l)) where
+    split : same (letters t) name ≡ same (L.◌∷◌ l.code (letters_within (w.budget - 1) (drop l.end t))) (drop k name)
+    split = w.is ∙ rw (letters_on w.budget t i l here w.enough)
 
     -- where it is a letter, the name has it too
-    pub comparing_past : length name ≤ k → same (letters t) name ≡ false
-    comparing_past h = split ∙ rw (drop_of_length-le name {i = k})
+    pub comparing_other : k < length name → (l.code ≡ get_or name k 0 → ⊥) → same (letters t) name ≡ false
+    comparing_other h differs = split ∙ rw (drop-cons name k 0, same, ne_eqb l.code (get_or name k 0) differs)
 
-    pub comparing_other : k < length name → (c ≡ get_or name k 0 → ⊥) → same (letters t) name ≡ false
-    comparing_other h differs = split ∙ rw (drop-cons name k 0, same, ne_eqb c (get_or name k 0) differs)
-
-    pub comparing_more : k < length name → c ≡ get_or name k 0 → Comparing t name (i + x.end) (k + 1)
+    pub comparing_more : k < length name → l.code ≡ get_or name k 0 → Comparing t name l.end (k + 1)
     comparing_more h like =
-        let inside = more_inside in
         let enough = w.enough in
         record {
           budget = w.budget - 1;
-          enough = omega arith;
-          inside = inside.1;
+          enough = omega (arith, here.2);
+          inside = here.3;
           short = omega arith;
-          is = split ∙ rw (drop-cons name k 0, same, eq-eqb c (get_or name k 0) like, add-one);
+          is = split ∙ rw (drop-cons name k 0, same, eq-eqb l.code (get_or name k 0) like, add-one);
         }
+
+  -- behind the name there is no letter more
+  pub comparing_all : (o : Option Letter) → LetterAt t i o → (no_more : Bool) → is_some o ≡ not no_more → length name ≤ k → no_more ≡ same (letters t) name
+  comparing_all None here true e h = let short = w.short in sym (comparing_end here ∙ eq-eqb k (length name) (omega arith))
+  comparing_all None here false e h = absurd (false≢true e)
+  comparing_all (Some l) here true e h = absurd (false≢true (sym e))
+  comparing_all (Some l) here false e h = sym (split l here ∙ rw (drop_of_length-le name {i = k}))
 
 -- letters spell a name where they are its code points
 spelled : (l : List ℕ) (n : String) → spells l n ≡ same l (codes n)

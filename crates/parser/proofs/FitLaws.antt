@@ -3,7 +3,8 @@
 use mathlib.Core.Path.{◌≡◌}
 use mathlib.Core.Bool.{Bool, true, false, ◌&&◌, and-eq-true_iff}
 use mathlib.Core.List.{List}
-use mathlib.Core.Option.{Option, none, some}
+use Rattle.std.specs.Prelude.{Option, Some, None}
+use mathlib.Core.Option.{none, some}
 use Prim.Native.Nat.{ℕ, zero, suc}
 use Prim.Native.Char.{code}
 use lib.ListN.{length, drop}
@@ -12,7 +13,6 @@ use Rattle.error.specs.declared.Refusal.{Refusal}
 use Rattle.token.specs.declared.Token.{Token}
 use Rattle.token.specs.declared.Token.TheVariants.{EOF, Begin, End, Ampersand, NewLine, Left, Right, Middle, Paren, LBrace, RBrace, Frac, Underscore, Circumflex, Binom, Overset, Underset, Overbrace, Underbrace, Sqrt, Integral, Lim, Space, Style, Big, Over, Under, Operator, BigOp, Letter, Number, Function, OperatorName, Slashed, Text, Command}
 use Rattle.token.specs.declared.Mark.{Mark}
-use Rattle.token.specs.declared.Binomial.{Binomial}
 use Rattle.token.specs.Command.{acts_on_a_digit}
 use Rattle.token.specs.Roles.{letter_of, paren_of, fence_of}
 use Rattle.token.proofs.FitLaws.{Asks, TokenFit}
@@ -24,7 +24,7 @@ use Rattle.ast.specs.Tree.{Node, leaf, one, two, three, row, matrix, Nodes, empt
 use Rattle.ast.proofs.FitLaws.{LeafFit, OneFit, TreeFit, AllFit, snoc_fit, variant_fit}
 use Rattle.attribute.specs.declared.Variant.{Variant}
 use Rattle.parser.specs.declared.Parser.{Parser}
-use Rattle.parser.specs.declared.Script.{Script}
+use Rattle.parser.specs.declared.Side.{Side}
 use Rattle.parser.specs.declared.Environment.{Environment}
 use Rattle.parser.specs.declared.Pair.{Pair}
 use Rattle.parser.specs.declared.Limits.{Limits}
@@ -117,8 +117,8 @@ module _ (asks : Asks) where
   of_pair_lem : (kind : Pair) (a b : Node) (p : Parser) → TreeFit asks a → TreeFit asks b → StateFit p → NodeFit (of_pair kind a b p)
   unfolding of_pair binomial
   of_pair_lem Pair.Frac a b p x y i = built 1 _ _ (x, y) i
-  of_pair_lem (Pair.Binom Binomial.Plain) a b p x y i = built 2 _ _ (tt, (x, y)) i
-  of_pair_lem (Pair.Binom (Binomial.Styled d)) a b p x y i = built 4 _ _ (tt, ((tt, (x, y)), tt)) i
+  of_pair_lem (Pair.Binom None) a b p x y i = built 2 _ _ (tt, (x, y)) i
+  of_pair_lem (Pair.Binom (Some d)) a b p x y i = built 4 _ _ (tt, ((tt, (x, y)), tt)) i
   of_pair_lem Pair.Overset a b p x y i = built 1 _ _ (y, x) i
   of_pair_lem Pair.Underset a b p x y i = built 1 _ _ (y, x) i
 
@@ -149,14 +149,14 @@ module _ (asks : Asks) where
 
     sizes_paren : (z : ℕ) (o : Option ℕ) → NodeFit (sized z o p)
     unfolding sized
-    sizes_paren z none = nothing _
-    sizes_paren z (some t) = built 1 _ _ tt i
+    sizes_paren z None = nothing _
+    sizes_paren z (Some t) = built 1 _ _ tt i
 
-    in_environment_lem : (env : Environment) (ns : Nodes) → AllFit asks ns → NodeFit (in_environment env ns p)
+    in_environment_lem : (env : Option Environment) (ns : Nodes) → AllFit asks ns → NodeFit (in_environment env ns p)
     unfolding in_environment
-    in_environment_lem Environment.Unknown ns h = nothing _
-    in_environment_lem (Environment.Bare align) ns h = built 1 _ _ h i
-    in_environment_lem (Environment.Between t u) ns h = built 2 _ _ (tt, h) i
+    in_environment_lem None ns h = nothing _
+    in_environment_lem (Some (Environment.Bare align)) ns h = built 1 _ _ h i
+    in_environment_lem (Some (Environment.Between t u)) ns h = built 2 _ _ (tt, h) i
 
     -- an operator and a fixed text are stretched
     stretches_leaf : (l : Leaf) → LeafFit asks l → NodeFit (stretched (stretch_leaf l) p)
@@ -195,8 +195,8 @@ module _ (asks : Asks) where
 
   with_fence_lem : (o : Option ℕ) (k : ℕ → Parsed Node) → ((t : ℕ) → NodeFit (k t)) → NodeFit (with_fence o k)
   unfolding with_fence
-  with_fence_lem none k f = nothing _
-  with_fence_lem (some t) k f = f t
+  with_fence_lem None k f = nothing _
+  with_fence_lem (Some t) k f = f t
 
   -- ---- the arms over the level below
 
@@ -251,14 +251,14 @@ module _ (asks : Asks) where
           (behind _ _ (singles (next s (next s p)) (on (on i)))
           (λ under q x y.
           either (peek_is q Mark.Circumflex) _ _
-          (behind _ _ (singles (next s (next s q)) (on (on y))) (λ over r z w. both_limits r w kind under over h x z))
+          (behind _ _ (singles (next s (next s q)) (on (on y))) (λ side r z w. both_limits r w kind under side h x z))
           (below q y kind under h x)))
           (either (peek_is p Mark.Circumflex) _ _
           (behind _ _ (singles (next s (next s p)) (on (on i)))
-          (λ over q x y.
+          (λ side q x y.
           either (peek_is q Mark.Underscore) _ _
-          (behind _ _ (singles (next s (next s q)) (on (on y))) (λ under r z w. both_limits r w kind under over h z x))
-          (above q y kind over h x)))
+          (behind _ _ (singles (next s (next s q)) (on (on y))) (λ under r z w. both_limits r w kind under side h z x))
+          (above q y kind side h x)))
           (alone p i kind h))
 
       lim : (t : ℕ) → NodeFit (parse_lim single s t p)
@@ -351,28 +351,28 @@ module _ (asks : Asks) where
         behind _ _ (bare p i p.cur.token i.cur)
         (λ n q x y. either (peek_is q Mark.Prime) _ _ (built 2 _ _ (x, body.prime) (on y)) (fine n q x y))
 
-    sub_sup_fit : (over : Bool) (a b c : Node) → TreeFit asks a → TreeFit asks b → TreeFit asks c → TreeFit asks (sub_sup over a b c)
+    sub_sup_fit : (side : Side) (a b c : Node) → TreeFit asks a → TreeFit asks b → TreeFit asks c → TreeFit asks (sub_sup side a b c)
     unfolding sub_sup
-    sub_sup_fit true a b c x y z = (x, z, y)
-    sub_sup_fit false a b c x y z = (x, y, z)
+    sub_sup_fit Side.Under a b c x y z = (x, y, z)
+    sub_sup_fit Side.Over a b c x y z = (x, z, y)
 
-    both_scripts_lem : (script : Script) (n : Node) (p : Parser) → TreeFit asks n → StateFit p → NodeFit (both_scripts script n p)
+    both_scripts_lem : (script : Option Side) (n : Node) (p : Parser) → TreeFit asks n → StateFit p → NodeFit (both_scripts script n p)
     unfolding both_scripts
-    both_scripts_lem Script.Neither n p h i = built 1 _ _ h i
-    both_scripts_lem (Script.Operand again) n p h i = nothing _
+    both_scripts_lem None n p h i = built 1 _ _ h i
+    both_scripts_lem (Some again) n p h i = nothing _
 
-    second : (over : Bool) (script : Script) (n m : Node) (p : Parser) → TreeFit asks n → TreeFit asks m → StateFit p → NodeFit (parse_second single s over script n m p)
+    second : (side : Side) (script : Option Side) (n m : Node) (p : Parser) → TreeFit asks n → TreeFit asks m → StateFit p → NodeFit (parse_second single s side script n m p)
     unfolding parse_second
-    second over Script.Neither n m p h k i = built 1 _ _ (h, k) i
-    second over (Script.Operand again) n m p h k i =
-        either (repeats over again) _ _ (nothing _)
-        (behind _ _ (singles (next s (next s p)) (on (on i))) (λ o q x y. both_scripts_lem (script_of q.peek.token) _ q (sub_sup_fit over n m o h k x) y))
+    second side None n m p h k i = built 1 _ _ (h, k) i
+    second side (Some again) n m p h k i =
+        either (repeats side again) _ _ (nothing _)
+        (behind _ _ (singles (next s (next s p)) (on (on i))) (λ o q x y. both_scripts_lem (script_of q.peek.token) _ q (sub_sup_fit side n m o h k x) y))
 
-    scripts : (script : Script) (n : Node) (p : Parser) → TreeFit asks n → StateFit p → NodeFit (parse_scripts single s script n p)
+    scripts : (script : Option Side) (n : Node) (p : Parser) → TreeFit asks n → StateFit p → NodeFit (parse_scripts single s script n p)
     unfolding parse_scripts
-    scripts Script.Neither n p h i = fine n p h i
-    scripts (Script.Operand over) n p h i =
-        behind _ _ (singles (next s (next s p)) (on (on i))) (λ m q x y. second over (script_of q.peek.token) n m q h x y)
+    scripts None n p h i = fine n p h i
+    scripts (Some side) n p h i =
+        behind _ _ (singles (next s (next s p)) (on (on i))) (λ m q x y. second side (script_of q.peek.token) n m q h x y)
 
     node_step_lem : Fits (node_step single s)
     unfolding node_step

@@ -7,8 +7,8 @@ use Prim.Native.Nat.{ℕ, zero, suc, ◌+◌, ◌*◌, ◌≤◌, ◌<◌}
 use native.Mathlib.Omega.{arith}
 use lib.ListN.{length}
 use Rattle.text.proofs.Cases.{by_test, never}
+use Rattle.std.specs.Prelude.{◌≢◌}
 use Rattle.token.specs.declared.Mark.{Mark}
-use Rattle.token.specs.Roles.{mark_number}
 use Rattle.ast.specs.Tree.{Node, row, Nodes, empty, ◌then◌, snoc, size, sizes}
 use Rattle.ast.specs.Inside.{TreeInside, AllInside}
 use Rattle.parser.specs.declared.Parser.{Parser}
@@ -124,7 +124,7 @@ module _ (s : List ℕ) (at base : ℕ) where
       }
 
   -- the nodes up to the token that closes the group
-  group_closes : {node : Reads} → Keeps s node → (end : Mark) → 1 ≤ mark_number end → (k : ℕ) (p : Parser) (ns : Nodes) (n : Node) (q : Parser)
+  group_closes : {node : Reads} → Keeps s node → (end : Mark) → end ≢ Mark.EOF → (k : ℕ) (p : Parser) (ns : Nodes) (n : Node) (q : Parser)
       → Rowing s at base p ns → group_up_to node s end k p ns ≡ made n q → Group s at base n q
   unfolding group_up_to
   group_closes keeps end some-mark zero p ns n q h e = never (cc)
@@ -141,7 +141,7 @@ module _ (s : List ℕ) (at base : ℕ) where
       (λ m r first rest. group_closes keeps end some-mark k (next s r) (snoc ns m) n q (rowing_more keeps p ns m r h t first) rest)))
 
 -- parse_group from its opening token on
-pub group_kept : {s : List ℕ} {node : Reads} → Keeps s node → (end : Mark) → 1 ≤ mark_number end → (p : Parser) (n : Node) (q : Parser) → Sound s p
+pub group_kept : {s : List ℕ} {node : Reads} → Keeps s node → (end : Mark) → end ≢ Mark.EOF → (p : Parser) (n : Node) (q : Parser) → Sound s p
     → parse_group node s end p ≡ made n q → Group s (next s p).cur.start p.made n q
 unfolding parse_group next sizes
 group_kept {s} keeps end some-mark p n q h e =

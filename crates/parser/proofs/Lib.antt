@@ -9,3 +9,4 @@ pub mod MarkLaws
 pub mod TextLaws
 pub mod DigitLaws
 pub mod EnvironmentLaws
+pub mod AnswerLaws

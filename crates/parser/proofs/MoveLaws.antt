@@ -10,6 +10,7 @@ use native.Mathlib.Numerals.{sub-one}
 use lib.ListN.{length}
 use borrow.Author.Tests.{eqb-true}
 use Rattle.text.proofs.Cases.{by_order, never}
+use Rattle.std.specs.Prelude.{◌≢◌}
 use Rattle.token.specs.declared.Token.{Token}
 use Rattle.token.specs.declared.Token.TheVariants.{EOF, Begin, End, Ampersand, NewLine, Left, Right, Middle, Paren, LBrace, RBrace, Frac, Underscore, Circumflex, Binom, Overset, Underset, Overbrace, Underbrace, Sqrt, Integral, Lim, Space, Style, Big, Over, Under, Operator, BigOp, Letter, Number, Function, OperatorName, Slashed, Text, Command}
 use Rattle.token.specs.declared.Mark.{Mark}
@@ -20,6 +21,7 @@ use Rattle.parser.specs.declared.Parser.{Parser}
 use Rattle.parser.specs.declared.TextRead.{TextRead}
 use Rattle.parser.specs.State.{next, new, past_letters, parse_text}
 use Rattle.parser.specs.Sound.{least, Lies, Sound, idle}
+use Rattle.parser.proofs.MarkLaws.{marks_same}
 use Rattle.parser.proofs.LeastLaws.{following_lies}
 
 -- ---- which tokens take a byte
@@ -73,13 +75,10 @@ unfolding token_is mark_number mark_of
 other_byte t e = takes_byte t (λ q. absurd (false≢true (sym (rw q at e))))
 
 -- .. and so does one that is a mark other than the end, and a letter
-pub mark_byte : (t : Token) (m : Mark) → 1 ≤ mark_number m → token_is t m ≡ true → 1 ≤ least t
+pub mark_byte : (t : Token) (m : Mark) → m ≢ Mark.EOF → token_is t m ≡ true → 1 ≤ least t
 unfolding token_is mark_number mark_of
 mark_byte t m some-mark e =
-    takes_byte t
-    (λ q.
-    let z : 0 ≡ mark_number m = eqb-true 0 (mark_number m) (rw (token_is, q) at e) in
-    omega arith)
+    takes_byte t (λ q. some-mark (sym (marks_same Mark.EOF m (eqb-true 0 (mark_number m) (rw (token_is, q) at e)))))
 
 pub letter_byte : (t : Token) (c : ℕ) → letter_of t ≡ some c → 1 ≤ least t
 unfolding letter_of

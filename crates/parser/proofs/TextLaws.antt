@@ -55,6 +55,32 @@ module _ (s : List ℕ) (at : ℕ) (inside : at ≤ length s) (x : Lexeme) (is :
         let there = letter_lies in
         rw (← is) (past_letter s x c v e k made ∙ f k made (omega arith))
 
+-- On the way past the letters from a place on, where l is the next token: what is behind the letters from it on is behind them all.
+pub record Passing (s : List ℕ) (from : ℕ) (l : Lexeme) : Type 0 where
+  pub at : ℕ
+  pub inside : at ≤ length s
+  pub is : l ≡ next_token at (drop at s)
+  pub ends : l.end ≤ length s
+  pub on : (x : Lexeme) → PastLetters s at x → PastLetters s from x
+
+pub passing_none : {s : List ℕ} {from : ℕ} {l : Lexeme} → from ≤ length s → l ≡ next_token from (drop from s) → l.end ≤ length s → Passing s from l
+passing_none {s} {from} {l} inside is ends = record { at = from; inside = inside; is = is; ends = ends; on = λ x h. h }
+
+pub passing_all : {s : List ℕ} {from : ℕ} {l : Lexeme} → Passing s from l → letter_of l.token ≡ none → PastLetters s from l
+passing_all {s} {from} {l} p e = p.on l (past_here s p.at p.inside l p.is e)
+
+module _ {s : List ℕ} {from : ℕ} {l : Lexeme} (p : Passing s from l) (c : ℕ) (v : Variant) (e : l.token ≡ Token.Letter c v) {l' : Lexeme} (is : l' ≡ next_token l.end (drop l.end s)) where
+  pub passing_more : l'.end ≤ length s → Passing s from l'
+  passing_more ends = record { at = l.end; inside = p.ends; is = is; ends = ends; on = λ x h. p.on x (past_on s p.at p.inside l p.is c v e h) }
+
+  pub passing_less : (l.start < length s) × (l.start < l'.start)
+  unfolding letter_of
+  passing_less =
+      let here = rw (← p.is) at (next_lies s p.at p.inside) in
+      let there = rw (← is) at (next_lies s l.end p.ends) in
+      let byte = letter_byte l.token c (rw e) in
+      (omega (arith, here.wide, here.inside), omega (arith, here.wide, there.from))
+
 -- What parse_text reads, by the token behind the current one.
 module _ (s : List ℕ) (p : Parser) where
   pub text_none : letter_of p.peek.token ≡ none → parse_text s p ≡ record { a = p.peek.start; e = p.peek.start; after = next s p }

@@ -1,7 +1,6 @@
--- What the parser's functions ask of a token, as enums of the code answer it.
+-- What the parser's functions ask of a token, as the code answers it.
 -- Assumes nothing.
-use Rattle.std.specs.Prelude.{Bool, true, false, ◌&&◌, ◌||◌, not, ℕ}
-use Rattle.std.proofs.Math.Option.{Option, none, some}
+use Rattle.std.specs.Prelude.{Bool, true, false, ◌&&◌, ◌||◌, not, Option, Some, None}
 use Rattle.token.specs.declared.Token.{Token}
 use Rattle.token.specs.declared.Token.TheVariants.{EOF, Begin, End, Ampersand, NewLine, Left, Right, Middle, Paren, LBrace, RBrace, Frac, Underscore, Circumflex, Binom, Overset, Underset, Overbrace, Underbrace, Sqrt, Integral, Lim, Space, Style, Big, Over, Under, Operator, BigOp, Letter, Number, Function, OperatorName, Slashed, Text, Command}
 use Rattle.token.specs.declared.Mark.{Mark}
@@ -9,34 +8,31 @@ use Rattle.token.specs.declared.Undefined.{Undefined}
 use Rattle.token.specs.Roles.{token_is}
 use Rattle.ast.specs.declared.Leaf.{Leaf}
 use Rattle.ast.specs.declared.Two.{Two}
-use Rattle.parser.specs.declared.Fence.{Fence}
-use Rattle.parser.specs.declared.Script.{Script}
+use Rattle.parser.specs.declared.Side.{Side}
 
-unfoldable pub fence : Option ℕ → Fence
-fence none = Fence.Missing
-fence (some t) = Fence.Fixed t
-
--- whether a token is the mark of a script, and whether its operand stands above
-unfoldable pub script_of : Token → Script
+-- where the operand of a script stands, if the token is the mark of one
+unfoldable pub script_of : Token → Option Side
 script_of t =
     elim (token_is t Mark.Underscore) [
-      | true ↦ Script.Operand false
-      | false ↦ elim (token_is t Mark.Circumflex) [ true ↦ Script.Operand true | false ↦ Script.Neither ]
+      | true ↦ Some Side.Under
+      | false ↦ elim (token_is t Mark.Circumflex) [ true ↦ Some Side.Over | false ↦ None ]
     ]
 
-abbrev pub script_kind : Bool → Two
-script_kind true = Two.Superscript
-script_kind false = Two.Subscript
+abbrev pub script_kind : Side → Two
+script_kind Side.Under = Two.Subscript
+script_kind Side.Over = Two.Superscript
 
--- whether a mark is the one before it again, both by whether their operands stand above
-unfoldable pub repeats : Bool → Bool → Bool
-repeats true again = again
-repeats false again = not again
+-- whether a mark is the one before it again, both by where their operands stand
+unfoldable pub repeats : Side → Side → Bool
+repeats Side.Under Side.Under = true
+repeats Side.Under Side.Over = false
+repeats Side.Over Side.Under = false
+repeats Side.Over Side.Over = true
 
 -- the mark of the other limit
-abbrev pub other_limit : Bool → Mark
-other_limit true = Mark.Underscore
-other_limit false = Mark.Circumflex
+abbrev pub other_limit : Side → Mark
+other_limit Side.Under = Mark.Circumflex
+other_limit Side.Over = Mark.Underscore
 
 -- the leaf that a token is by itself; a token with operands is none
 unfoldable pub leaf_of : Token → Leaf

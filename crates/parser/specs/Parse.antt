@@ -1,8 +1,7 @@
 -- The parser: the Rust's parse.rs, arm by arm. A step takes the functions of the level below, `node` for parse_node and
 -- `single` for parse_single_node; the depth left falls from level to level.
 -- Assumes nothing.
-use Rattle.std.specs.Prelude.{Bool, true, false, List, ℕ, zero, suc, ◌+◌, length}
-use Rattle.std.proofs.Math.Option.{Option, none, some}
+use Rattle.std.specs.Prelude.{true, false, List, ℕ, zero, suc, ◌+◌, length, Option, Some, None}
 use Prim.Native.Char.{code}
 use Rattle.text.specs.Text.{part}
 use Rattle.attribute.specs.declared.Variant.{Variant}
@@ -12,7 +11,6 @@ use Rattle.attribute.specs.declared.ColumnAlign.{ColumnAlign}
 use Rattle.error.specs.declared.Refusal.{Refusal}
 use Rattle.token.specs.declared.Token.{Token}
 use Rattle.token.specs.declared.Mark.{Mark}
-use Rattle.token.specs.declared.Binomial.{Binomial}
 use Rattle.token.specs.declared.Undefined.{Undefined}
 use Rattle.token.specs.Texts.{text}
 use Rattle.token.specs.Roles.{paren_of, fence_of}
@@ -27,7 +25,7 @@ use Rattle.parser.specs.declared.TextRead.{TextRead}
 use Rattle.parser.specs.declared.Environment.{Environment}
 use Rattle.parser.specs.declared.Pair.{Pair}
 use Rattle.parser.specs.declared.Limits.{Limits}
-use Rattle.parser.specs.declared.Script.{Script}
+use Rattle.parser.specs.declared.Side.{Side}
 use Rattle.parser.specs.State.{next, new, cur_is, peek_is, parse_text}
 use Rattle.parser.specs.Environment.{environment}
 use Rattle.parser.specs.Marks.{script_of, script_kind, repeats}
@@ -100,8 +98,8 @@ binomial a b = one (One.Fenced (text "(") (text ")")) (two (Two.Frac LineThickne
 -- the node of a command with two operands: of `\overset` and `\underset` the second is the target
 unfoldable pub of_pair : Pair → Node → Node → Reads
 of_pair Pair.Frac a b p = build 1 (two (Two.Frac LineThickness.Medium) a b) p
-of_pair (Pair.Binom Binomial.Plain) a b p = build 2 (binomial a b) p
-of_pair (Pair.Binom (Binomial.Styled display)) a b p = build 4 (one (One.Style display) (row (binomial a b then empty))) p
+of_pair (Pair.Binom None) a b p = build 2 (binomial a b) p
+of_pair (Pair.Binom (Some display)) a b p = build 4 (one (One.Style display) (row (binomial a b then empty))) p
 of_pair Pair.Overset a b p = build 1 (two Two.Overset b a) p
 of_pair Pair.Underset a b p = build 1 (two Two.Underset b a) p
 
@@ -193,8 +191,8 @@ parse_style node s v p = do
 
 -- with the text of a fence
 unfoldable pub with_fence : Option ℕ → (ℕ → Parsed Node) → Parsed Node
-with_fence none k = refused Refusal.MissingParensethis
-with_fence (some t) k = k t
+with_fence None k = refused Refusal.MissingParensethis
+with_fence (Some t) k = k t
 
 -- a node between fences, of which the second is the current token
 unfoldable pub fenced : ℕ → Node → Reads
@@ -209,31 +207,31 @@ parse_left node s p =
 
 -- what `\middle` makes of its operand
 unfoldable pub stretch_leaf : Leaf → Option Stretched
-stretch_leaf (Leaf.Number a e) = none
-stretch_leaf (Leaf.Letter c v) = none
-stretch_leaf (Leaf.Operator c) = some (Stretched.Character c)
-stretch_leaf (Leaf.Function t) = none
-stretch_leaf (Leaf.FunctionName a e) = none
-stretch_leaf (Leaf.Space w) = none
-stretch_leaf (Leaf.StrechedOp o) = none
-stretch_leaf (Leaf.OtherOperator t) = some (Stretched.Fixed t)
-stretch_leaf (Leaf.SizedParen z t) = none
-stretch_leaf (Leaf.Text a e) = none
-stretch_leaf Leaf.Ampersand = none
-stretch_leaf Leaf.NewLine = none
-stretch_leaf (Leaf.Undefined u) = none
+stretch_leaf (Leaf.Number a e) = None
+stretch_leaf (Leaf.Letter c v) = None
+stretch_leaf (Leaf.Operator c) = Some (Stretched.Character c)
+stretch_leaf (Leaf.Function t) = None
+stretch_leaf (Leaf.FunctionName a e) = None
+stretch_leaf (Leaf.Space w) = None
+stretch_leaf (Leaf.StrechedOp o) = None
+stretch_leaf (Leaf.OtherOperator t) = Some (Stretched.Fixed t)
+stretch_leaf (Leaf.SizedParen z t) = None
+stretch_leaf (Leaf.Text a e) = None
+stretch_leaf Leaf.Ampersand = None
+stretch_leaf Leaf.NewLine = None
+stretch_leaf (Leaf.Undefined u) = None
 
 unfoldable pub stretch : Node → Option Stretched
 stretch (leaf l) = stretch_leaf l
-stretch (one k a) = none
-stretch (two k a b) = none
-stretch (three k a b c) = none
-stretch (row ns) = none
-stretch (matrix align ns) = none
+stretch (one k a) = None
+stretch (two k a b) = None
+stretch (three k a b c) = None
+stretch (row ns) = None
+stretch (matrix align ns) = None
 
 unfoldable pub stretched : Option Stretched → Reads
-stretched none p = refused Refusal.MiddleOperand
-stretched (some o) p = build 1 (leaf (Leaf.StrechedOp o)) p
+stretched None p = refused Refusal.MiddleOperand
+stretched (Some o) p = build 1 (leaf (Leaf.StrechedOp o)) p
 
 unfoldable pub parse_middle : Reads → List ℕ → Reads
 parse_middle single s p = do
@@ -241,8 +239,8 @@ parse_middle single s p = do
   stretched (stretch n) q
 
 unfoldable pub sized : ℕ → Option ℕ → Reads
-sized size none p = refused Refusal.UnexpectedToken
-sized size (some paren) p = build 1 (leaf (Leaf.SizedParen size paren)) p
+sized size None p = refused Refusal.UnexpectedToken
+sized size (Some paren) p = build 1 (leaf (Leaf.SizedParen size paren)) p
 
 unfoldable pub parse_big : List ℕ → ℕ → Reads
 parse_big s size p =
@@ -258,10 +256,10 @@ opened (three k a b c) = three k a b c then empty
 opened (row ns) = ns
 opened (matrix align ns) = matrix align ns then empty
 
-unfoldable pub in_environment : Environment → Nodes → Reads
-in_environment Environment.Unknown ns p = refused Refusal.UnknownEnvironment
-in_environment (Environment.Bare align) ns p = build 1 (matrix align ns) p
-in_environment (Environment.Between t u) ns p = build 2 (one (One.Fenced t u) (matrix ColumnAlign.Center ns)) p
+unfoldable pub in_environment : Option Environment → Nodes → Reads
+in_environment None ns p = refused Refusal.UnknownEnvironment
+in_environment (Some (Environment.Bare align)) ns p = build 1 (matrix align ns) p
+in_environment (Some (Environment.Between t u)) ns p = build 2 (one (One.Fenced t u) (matrix ColumnAlign.Center ns)) p
 
 -- the environment is looked up after its content is read, and the name behind `\end` is passed unseen
 unfoldable pub parse_begin : Reads → List ℕ → Reads
@@ -337,32 +335,32 @@ single_step node single s p = do
   primed s n q
 
 -- a base with both scripts, of which the first is the one above or the one below
-unfoldable pub sub_sup : Bool → Node → Node → Node → Node
-sub_sup true base sup sub = three Three.SubSup base sub sup
-sub_sup false base sub sup = three Three.SubSup base sub sup
+unfoldable pub sub_sup : Side → Node → Node → Node → Node
+sub_sup Side.Under base sub sup = three Three.SubSup base sub sup
+sub_sup Side.Over base sup sub = three Three.SubSup base sub sup
 
 -- a base that has both scripts: any mark behind them is a repeated one
-unfoldable pub both_scripts : Script → Node → Reads
-both_scripts Script.Neither n p = build 1 n p
-both_scripts (Script.Operand again) n p = refused Refusal.RepeatedMark
+unfoldable pub both_scripts : Option Side → Node → Reads
+both_scripts None n p = build 1 n p
+both_scripts (Some again) n p = refused Refusal.RepeatedMark
 
 -- a base that has one script, above or below: the same mark behind it is a repeated one, the other begins the second script
-unfoldable pub parse_second : Reads → List ℕ → Bool → Script → Node → Node → Reads
-parse_second single s over Script.Neither base first p = build 1 (two (script_kind over) base first) p
-parse_second single s over (Script.Operand again) base first p =
-    elim (repeats over again) [
+unfoldable pub parse_second : Reads → List ℕ → Side → Option Side → Node → Node → Reads
+parse_second single s side None base first p = build 1 (two (script_kind side) base first) p
+parse_second single s side (Some again) base first p =
+    elim (repeats side again) [
       | true ↦ refused Refusal.RepeatedMark
       | false ↦ do
         (second, q) ← single (next s (next s p))
-        both_scripts (script_of q.peek.token) (sub_sup over base first second) q
+        both_scripts (script_of q.peek.token) (sub_sup side base first second) q
     ]
 
 -- a base with the scripts behind it, of which each operand is one single node
-unfoldable pub parse_scripts : Reads → List ℕ → Script → Node → Reads
-parse_scripts single s Script.Neither base p = made base p
-parse_scripts single s (Script.Operand over) base p = do
+unfoldable pub parse_scripts : Reads → List ℕ → Option Side → Node → Reads
+parse_scripts single s None base p = made base p
+parse_scripts single s (Some side) base p = do
   (first, q) ← single (next s (next s p))
-  parse_second single s over (script_of q.peek.token) base first q
+  parse_second single s side (script_of q.peek.token) base first q
 
 unfoldable pub node_step : Reads → List ℕ → Reads
 node_step single s p = do

@@ -5,18 +5,16 @@ pub mod environments;
 pub mod marks;
 
 ghost use Rattle.std.specs.Prelude.{◌≡◌, true, ◌≤◌, length, drop};
-ghost use Rattle.token.specs.Key.{rows};
 ghost use Rattle.token.specs.Command.{acts_on_a_digit};
 ghost use Rattle.parser.specs.State.{following, next, new, cur_is, peek_is, parse_text, PastLetters};
 ghost use Rattle.parser.specs.Sound.{Sound};
 
 use crate::marks::token_is;
-use attribute::ColumnAlign;
-use error::Refusal;
+use attribute::{ColumnAlign, DisplayStyle};
+use lexer::Lexeme;
+use lexer::letters::letter_or_token;
 use lexer::reader::token_from;
-use lexer::{Lexeme, is_alphabetic};
-use token::table::Table;
-use token::{Binomial, Mark, Token};
+use token::{Mark, Token};
 
 // The Rust's `Parser`, by value: the lexer stands at the end of `peek`, and `made` counts the records.
 #[derive(Clone, Copy)]
@@ -34,32 +32,25 @@ pub struct TextRead {
     pub after: Parser,
 }
 
-// The Rust's `Result<Node, LatexError>`: the index of a node and the state behind it, or why there is none.
+// A node that is read, by its index, and the state behind it: the Rust's `Result<Node, LatexError>` is a `Result` of one.
 #[derive(Clone, Copy)]
-pub enum ParsedNode {
-    Node(usize, Parser),
-    Refused(Refusal),
+pub struct ParsedNode {
+    pub node: usize,
+    pub after: Parser,
 }
 
-// The text of a parenthesis or of a fence, if the token is one.
-#[derive(Clone, Copy)]
-pub enum Fence {
-    Missing,
-    Fixed(u32),
-}
-
-// Whether a token is the mark of a script, and whether its operand stands above.
-#[derive(Clone, Copy)]
-pub enum Script {
-    Neither,
-    Operand(bool),
+// Where the operand of a script or of a limit stands.
+#[derive(Clone, Copy, PartialEq, Eq)]
+pub enum Side {
+    Under,
+    Over,
 }
 
 // The commands with two operands.
 #[derive(Clone, Copy)]
 pub enum Pair {
     Frac,
-    Binom(Binomial),
+    Binom(Option<DisplayStyle>),
     Overset,
     Underset,
 }
@@ -74,73 +65,57 @@ pub enum Limits {
 // A matrix with its alignment, alone or between two fixed texts.
 #[derive(Clone, Copy)]
 pub enum Environment {
-    Unknown,
     Bare(ColumnAlign),
     Between(u32, u32),
 }
 
 // The token from a place on; of a number that begins at the place itself, and not behind whitespace, the first digit alone.
-fn digit_or_token(s: &[u8], at: usize, table: &Table) -> Lexeme
-    requires { (at ≤ length s.now) × (table.now ≡ rows) }
+fn digit_or_token(s: &[u8], at: usize) -> Lexeme
+    requires { at ≤ length s.now }
     ensures { (t : Token) → acts_on_a_digit t ≡ true → result ≡ following t at (drop at s.now) }
 {
-    let next = token_from(s, at, table);
-    let token = next.token;
-    match token {
-        Token::Number(begin, _) => {
-            if begin == at {
-                let end = begin + 1;
-                return Lexeme {
-                    token: Token::Number(begin, end),
-                    start: begin,
-                    end,
-                };
+    let next = token_from(s, at);
+    match next.token {
+        Token::Number(begin, _) if begin == at => {
+            let end = begin + 1;
+            Lexeme {
+                token: Token::Number(begin, end),
+                start: begin,
+                end,
             }
-            next
         }
         _ => next,
     }
 }
 
 // The token behind t, which ends at a place: a digit directly behind a token that acts on it is a number.
-fn following(t: Token, s: &[u8], at: usize, table: &Table) -> Lexeme
-    requires { (at ≤ length s.now) × (table.now ≡ rows) }
+#[tactic(auto, unfolding(crate::specs::State::following))]
+fn following(t: Token, s: &[u8], at: usize) -> Lexeme
+    requires { at ≤ length s.now }
     ensures { result ≡ following t at (drop at s.now) }
 {
     if t.acts_on_a_digit() {
-        return digit_or_token(s, at, table);
+        return digit_or_token(s, at);
     }
-    token_from(s, at, table)
+    token_from(s, at)
 }
 
-// The first token from a place on that is no letter. An ASCII letter is a token of one byte, and needs no lexer.
-fn past_letters(s: &[u8], from: usize, table: &Table) -> Lexeme
-    requires { (from ≤ length s.now) × (table.now ≡ rows) }
+// The first token from a place on that is no letter.
+fn past_letters(s: &[u8], from: usize) -> Lexeme
+    requires { from ≤ length s.now }
     ensures { PastLetters s.now from result × (result.end ≤ length s.now) }
 {
-    let mut at = from;
-    loop {
-        if at < s.len() {
-            if is_alphabetic(s[at]) {
-                at += 1;
-                continue;
-            }
-        }
-        let l = token_from(s, at, table);
-        let token = l.token;
-        match token {
-            Token::Letter(_, _) => {
-                at = l.end;
-            }
-            _ => return l,
-        }
+    let mut l = letter_or_token(s, from);
+    while let Token::Letter(_, _) = l.token {
+        l = letter_or_token(s, l.end);
     }
+    l
 }
 
 impl Parser {
     // The state before the first token of a body.
-    pub fn new(s: &[u8], table: &Table) -> Parser
-        requires { table.now ≡ rows }
+    #[tactic(auto, using(crate::proofs::TextLaws::next_inside), unfolding(crate::specs::State::new))]
+    pub fn new(s: &[u8]) -> Parser
         ensures { result ≡ new s.now }
     {
         let nothing = Lexeme {
@@ -153,69 +128,54 @@ impl Parser {
             peek: nothing,
             made: 0,
         };
-        let q = p.next_token(s, table);
-        q.next_token(s, table)
+        p.next_token(s).next_token(s)
     }
 
     // Moves on by one token: the lexer reads from the end of `peek`.
-    pub fn next_token(self, s: &[u8], table: &Table) -> Parser
-        requires { (self.peek.end ≤ length s.now) × (table.now ≡ rows) }
+    #[tactic(auto, unfolding(crate::specs::State::next))]
+    pub fn next_token(self, s: &[u8]) -> Parser
+        requires { self.peek.end ≤ length s.now }
         ensures { result ≡ next s.now self }
     {
         let cur = self.peek;
-        let token = cur.token;
-        let peek = following(token, s, cur.end, table);
-        Parser {
-            cur: cur,
-            peek: peek,
-            made: self.made,
-        }
+        let peek = following(cur.token, s, cur.end);
+        Parser { cur, peek, ..self }
     }
 
     // Whether the current token is the one that a mark names.
     pub fn cur_token_is(self, m: Mark) -> bool
         ensures { result ≡ cur_is self m }
     {
-        let cur = self.cur;
-        let token = cur.token;
-        token_is(token, m)
+        token_is(self.cur.token, m)
     }
 
     // Whether the token behind the current one is the one that a mark names.
     pub fn peek_token_is(self, m: Mark) -> bool
         ensures { result ≡ peek_is self m }
     {
-        let peek = self.peek;
-        let token = peek.token;
-        token_is(token, m)
+        token_is(self.peek.token, m)
     }
 
     // Passes the current token unseen, and reads the letters behind it.
-    pub fn parse_text(self, s: &[u8], table: &Table) -> TextRead
-        requires { Sound s.now self × (table.now ≡ rows) }
+    pub fn parse_text(self, s: &[u8]) -> TextRead
+        requires { Sound s.now self }
         ensures { result ≡ parse_text s.now self }
     {
         let begin = self.peek;
-        let token = begin.token;
-        match token {
+        match begin.token {
             Token::Letter(_, _) => {
-                let last = past_letters(s, begin.end, table);
-                let behind = last.token;
-                let peek = following(behind, s, last.end, table);
+                let cur = past_letters(s, begin.end);
+                let peek = following(cur.token, s, cur.end);
                 TextRead {
                     a: begin.start,
-                    e: last.start,
-                    after: Parser {
-                        cur: last,
-                        peek: peek,
-                        made: self.made,
-                    },
+                    e: cur.start,
+                    after: Parser { cur, peek, ..self },
                 }
             }
             _ => TextRead {
                 a: begin.start,
                 e: begin.start,
-                after: self.next_token(s, table),
+                after: self.next_token(s),
             },
         }
     }

@@ -1,13 +1,14 @@
 // What the parser asks of a token.
 ghost use Rattle.std.specs.Prelude.{◌≡◌, true};
-ghost use Rattle.token.specs.Roles.{mark_number, paren_mark, operator_mark, mark_of, token_is, paren_of, fence_of};
-ghost use Rattle.parser.specs.Marks.{fence, script_of, script_kind, repeats, other_limit, leaf_of, is_defined, is_put_on, stands_alone};
+ghost use Rattle.token.specs.Roles.{paren_mark, operator_mark, mark_of, token_is, paren_of, fence_of};
+ghost use Rattle.parser.specs.Marks.{script_of, script_kind, repeats, other_limit, leaf_of, is_defined, is_put_on, stands_alone};
 
-use crate::{Fence, Script};
+use crate::Side;
 use ast::{Leaf, Two};
 use token::{Mark, Token, Undefined};
 
 // The mark of a parenthesis, by its text.
+#[tactic(auto, unfolding(token::specs::Roles::paren_mark, token::specs::Texts::text, token::specs::Texts::texts))]
 fn paren_mark(t: u32) -> Mark
     ensures { result ≡ paren_mark t }
 {
@@ -19,6 +20,7 @@ fn paren_mark(t: u32) -> Mark
 }
 
 // The mark of an operator, by its character.
+#[tactic(auto, unfolding(token::specs::Roles::operator_mark))]
 fn operator_mark(c: u32) -> Mark
     ensures { result ≡ operator_mark c }
 {
@@ -30,6 +32,7 @@ fn operator_mark(c: u32) -> Mark
 }
 
 // The mark by which a token is compared: most tokens are never asked for, and have the mark of the others.
+#[tactic(auto, unfolding(token::specs::Roles::mark_of))]
 fn mark_of(t: Token) -> Mark
     ensures { result ≡ mark_of t }
 {
@@ -46,102 +49,75 @@ fn mark_of(t: Token) -> Mark
     }
 }
 
-// A number for each mark, by which two are compared.
-#[tactic(auto, unfolding(token::specs::Roles::mark_number))]
-fn mark_number(m: Mark) -> u8
-    ensures { result ≡ mark_number m }
-{
-    match m {
-        Mark::EOF => 0,
-        Mark::LBracket => 1,
-        Mark::RBracket => 2,
-        Mark::RBrace => 3,
-        Mark::Right => 4,
-        Mark::End => 5,
-        Mark::Underscore => 6,
-        Mark::Circumflex => 7,
-        Mark::Prime => 8,
-        Mark::Period => 9,
-        Mark::Other => 10,
-    }
-}
-
 // The Rust's `==` of a token with one that it names.
+#[tactic(auto, using(crate::proofs::MarkLaws::mark_place), unfolding(token::specs::Roles::token_is))]
 pub fn token_is(t: Token, m: Mark) -> bool
     ensures { result ≡ token_is t m }
 {
-    mark_number(mark_of(t)) == mark_number(m)
+    mark_of(t) == m
 }
 
 // The text of a parenthesis.
-pub fn paren_of(t: Token) -> Fence
-    ensures { result ≡ fence (paren_of t) }
+#[tactic(auto, unfolding(token::specs::Roles::paren_of))]
+pub fn paren_of(t: Token) -> Option<u32>
+    ensures { result ≡ paren_of t }
 {
     match t {
-        Token::Paren(n) => Fence::Fixed(n),
-        _ => Fence::Missing,
+        Token::Paren(n) => Some(n),
+        _ => None,
     }
 }
 
 // The text of a fence: a parenthesis, or none for a period.
-pub fn fence_of(t: Token) -> Fence
-    ensures { result ≡ fence (fence_of t) }
+#[tactic(auto, using(crate::proofs::MarkLaws::fence_as))]
+pub fn fence_of(t: Token) -> Option<u32>
+    ensures { result ≡ fence_of t }
 {
-    match paren_of(t) {
-        Fence::Fixed(n) => Fence::Fixed(n),
-        Fence::Missing => {
-            if token_is(t, Mark::Period) {
-                return Fence::Fixed(0);
-            }
-            Fence::Missing
-        }
-    }
+    paren_of(t).or(token_is(t, Mark::Period).then_some(0))
 }
 
-// Whether a token is the mark of a script, and whether its operand stands above.
-pub fn script_of(t: Token) -> Script
+// Where the operand of a script stands, if the token is the mark of one.
+#[tactic(auto, unfolding(crate::specs::Marks::script_of, token::specs::Roles::token_is, token::specs::Roles::mark_number))]
+pub fn script_of(t: Token) -> Option<Side>
     ensures { result ≡ script_of t }
 {
-    if token_is(t, Mark::Underscore) {
-        return Script::Operand(false);
+    match mark_of(t) {
+        Mark::Underscore => Some(Side::Under),
+        Mark::Circumflex => Some(Side::Over),
+        _ => None,
     }
-    if token_is(t, Mark::Circumflex) {
-        return Script::Operand(true);
-    }
-    Script::Neither
 }
 
-// The node of a script.
-pub fn script_kind(over: bool) -> Two
-    ensures { result ≡ script_kind over }
+// The node of a script: not every use of a side, so no `From`.
+pub fn script_kind(side: Side) -> Two
+    ensures { result ≡ script_kind side }
 {
-    if over {
-        return Two::Superscript;
+    match side {
+        Side::Under => Two::Subscript,
+        Side::Over => Two::Superscript,
     }
-    Two::Subscript
 }
 
-// Whether a mark is the one before it again, both by whether their operands stand above.
-pub fn repeats(over: bool, again: bool) -> bool
-    ensures { result ≡ repeats over again }
+// Whether a mark is the one before it again, both by where their operands stand.
+#[tactic(auto, using(crate::proofs::MarkLaws::sides_same))]
+pub fn repeats(side: Side, again: Side) -> bool
+    ensures { result ≡ repeats side again }
 {
-    if over {
-        return again;
-    }
-    !again
+    side == again
 }
 
 // The mark of the other limit.
-pub fn other_limit(over: bool) -> Mark
-    ensures { result ≡ other_limit over }
+pub fn other_limit(side: Side) -> Mark
+    ensures { result ≡ other_limit side }
 {
-    if over {
-        return Mark::Underscore;
+    match side {
+        Side::Under => Mark::Circumflex,
+        Side::Over => Mark::Underscore,
     }
-    Mark::Circumflex
 }
 
-// The leaf that a token is by itself; a token with operands is none, and any leaf will do.
+// The leaf that a token is by itself; a token with operands is none, and any leaf will do. It is no `From`, as neither type is of this crate.
+#[tactic(auto, unfolding(crate::specs::Marks::leaf_of))]
 pub fn leaf_of(t: Token) -> Leaf
     ensures { result ≡ leaf_of t }
 {
@@ -165,58 +141,45 @@ pub fn leaf_of(t: Token) -> Leaf
 }
 
 // Whether a token is a leaf by itself, and not an undefined one.
+#[tactic(auto, unfolding(crate::specs::Marks::leaf_of, crate::specs::Marks::is_defined))]
 fn is_plain(t: Token) -> bool
     ensures { result ≡ is_defined (leaf_of t) }
 {
-    match t {
+    matches!(
+        t,
         Token::Number(_, _)
-        | Token::Letter(_, _)
-        | Token::Operator(_)
-        | Token::Function(_)
-        | Token::Space(_)
-        | Token::Paren(_)
-        | Token::Ampersand
-        | Token::NewLine => true,
-        _ => false,
-    }
+            | Token::Letter(_, _)
+            | Token::Operator(_)
+            | Token::Function(_)
+            | Token::Space(_)
+            | Token::Paren(_)
+            | Token::Ampersand
+            | Token::NewLine
+    )
 }
 
 // Whether a token is put on the node before it: a prime, or a script with its operand.
+#[tactic(auto, unfolding(crate::specs::Marks::is_put_on, token::specs::Roles::token_is, token::specs::Roles::mark_number))]
 fn is_put_on(t: Token) -> bool
     ensures { result ≡ is_put_on t }
 {
-    if token_is(t, Mark::Prime) {
-        return true;
-    }
-    if token_is(t, Mark::Underscore) {
-        return true;
-    }
-    token_is(t, Mark::Circumflex)
+    matches!(
+        mark_of(t),
+        Mark::Prime | Mark::Underscore | Mark::Circumflex
+    )
 }
 
 // Whether a token is a whole node: nothing is put on the leaf that it is.
+#[tactic(auto, unfolding(crate::specs::Marks::stands_alone))]
 pub fn stands_alone(t: Token, behind: Token) -> bool
     ensures { result ≡ stands_alone t behind }
 {
-    if is_plain(t) {
-        return !is_put_on(behind);
-    }
-    false
+    is_plain(t) && !is_put_on(behind)
 }
 
 // Whether a token is a letter or a number with nothing put on it, as the operand of a script mostly is; then it stands alone.
 pub fn is_usual_operand(t: Token, behind: Token) -> bool
     ensures { result ≡ true → stands_alone t behind ≡ true }
 {
-    if token_is(behind, Mark::Prime) {
-        return false;
-    }
-    match script_of(behind) {
-        Script::Operand(_) => false,
-        Script::Neither => match t {
-            Token::Letter(_, _) => true,
-            Token::Number(_, _) => true,
-            _ => false,
-        },
-    }
+    matches!(t, Token::Letter(_, _) | Token::Number(_, _)) && !is_put_on(behind)
 }

@@ -263,18 +263,18 @@ module _ (d : Dialect) (s st : List ℕ) where
 
   -- ---- the loop: the records before k are added
   module _ (top : ℕ) where
-    pub summed_none : Summed d s st top 0 (record { length = 0; errors = 0; ampersands = 0; lines = 0 })
+    pub summed_none : {sums : Sums} → (sums.length ≡ 0) × ((sums.errors ≡ 0) × ((sums.ampersands ≡ 0) × (sums.lines ≡ 0))) → Summed d s st top 0 sums
     unfolding added taken
-    summed_none =
+    summed_none z =
         record {
           in_store = zero-le;
-          length_more = refl;
-          length_less = refl;
-          errors_more = refl;
-          errors_less = refl;
-          length_small = zero-le;
-          errors_small = zero-le;
-          marks_small = zero-le;
+          length_more = omega arith;
+          length_less = omega arith;
+          errors_more = omega arith;
+          errors_less = omega arith;
+          length_small = omega arith;
+          errors_small = omega arith;
+          marks_small = omega arith;
         }
 
     summed_more : (k : ℕ) (sums : Sums) {n e x y : ℕ} → Summed d s st top k sums → k < top → Adds (fate_at st top k) k n e x y → n ≤ 33554432 → e ≤ 1 → x + y ≤ 33554432

@@ -1,11 +1,11 @@
 -- Nodes one behind the other are printed one after the other.
 -- Assumes nothing.
-use mathlib.Core.Path.{◌≡◌, refl, ◌∙◌}
-use mathlib.Core.Bool.{true}
+use mathlib.Core.Path.{◌≡◌, refl}
 use mathlib.Core.List.{List, ◌++◌}
-use Prim.Native.Nat.{ℕ, suc, ◌-◌, ◌<◌}
+use Prim.Native.Nat.{ℕ, suc, ◌+◌, ◌-◌, ◌≤◌, ◌<◌}
 use native.Mathlib.Omega.{arith}
 use Rattle.text.specs.Put.{Puts}
+use Rattle.text.specs.declared.put.Output.{Output}
 use Rattle.text.specs.declared.Dialect.{Dialect}
 use Rattle.text.proofs.PutLaws.{puts_nothing}
 use Rattle.ast.specs.Store.{record_at}
@@ -56,32 +56,38 @@ like_first : {s st : List ℕ} {left i n : ℕ} (d : Dialect) (place : Place) �
 like_first {s} {st} {left} {i} {n} d place some = record { of = λ ns h. split d s st left i n place ns some h }
 
 -- no nodes are printed by doing nothing
-none : (d : Dialect) (s : List ℕ) (place : Place) (o : List ℕ) (at : ℕ) (ns : Nodes) → count ns ≡ 0 → Puts true o o at (shown_all d place s ns) at
+none : (d : Dialect) (s : List ℕ) (place : Place) (o : Output) (ns : Nodes) → count ns ≡ 0 → Puts o o (shown_all d place s ns)
 unfolding count shown_all
-none d s place o at empty e = puts_nothing true o at
-none d s place o at (t then ns) e = absurd (omega arith)
+none d s place o empty e = puts_nothing o
+none d s place o (t then ns) e = absurd (omega arith)
 
--- of the n nodes from a on, those before i are printed and `todo` are left: they can be printed, and once they are, all are
-pub record Going (d : Dialect) (s st : List ℕ) (left : ℕ) (place : Place) (a n : ℕ) (o₀ : List ℕ) (at i todo : ℕ) (o : List ℕ) (end : ℕ) : Type 0 where
-  pub able : Printable (NodesAt s st left i todo) (shown_all d place s) o end
-  pub finish : (o' : List ℕ) (r : ℕ) → Prints (NodesAt s st left i todo) (shown_all d place s) o o' end r
-      → Prints (NodesAt s st left a n) (shown_all d place s) o₀ o' at r
+-- of the n nodes from a on, the first k, those before i, are printed: the others can be printed, and once they are, all are
+pub record Going (d : Dialect) (s st : List ℕ) (left : ℕ) (place : Place) (a n : ℕ) (o₀ : Output) (i k : ℕ) (o : Output) : Type 0 where
+  pub able : Printable (NodesAt s st left i (n - k)) (shown_all d place s) o
+  pub finish : (o' : Output) → Prints (NodesAt s st left i (n - k)) (shown_all d place s) o o'
+      → Prints (NodesAt s st left a n) (shown_all d place s) o₀ o'
 
-module _ {d : Dialect} {s st : List ℕ} {left : ℕ} {place : Place} {a n : ℕ} {o : List ℕ} {at : ℕ} where
-  pub going_start : Printable (NodesAt s st left a n) (shown_all d place s) o at → Going d s st left place a n o at a n o at
-  going_start p = record { able = p; finish = λ o' r q. q }
+module _ {d : Dialect} {s st : List ℕ} {left : ℕ} {place : Place} {a n : ℕ} {o : Output} where
+  pub going_start : Printable (NodesAt s st left a n) (shown_all d place s) o → Going d s st left place a n o a 0 o
+  going_start p =
+      let all : n - 0 ≡ n = omega arith in
+      record { able = rw all p; finish = λ o' q. rw all at q }
 
-module _ {d : Dialect} {s st : List ℕ} {left : ℕ} {place : Place} {a n : ℕ} {o₀ : List ℕ} {at i todo : ℕ} {o : List ℕ} {end : ℕ} (g : Going d s st left place a n o₀ at i todo o end) where
-  pub going_node : 0 < todo → Printable (TreeAt s st left i) (shown d place s) o end
-  going_node some = both_first (shown d place s) (shown_all d place s) (able_like (like_first d place some) g.able)
+module _ {d : Dialect} {s st : List ℕ} {left : ℕ} {place : Place} {a n : ℕ} {o₀ : Output} {i k : ℕ} {o : Output} (g : Going d s st left place a n o₀ i k o) where
+  pub going_node : k < n → Printable (TreeAt s st left i) (shown d place s) o
+  going_node some =
+      both_first (shown d place s) (shown_all d place s) (able_like (like_first d place (omega arith)) g.able)
 
-  pub going_next : {o₁ : List ℕ} {r₁ : ℕ} → 0 < todo → Prints (TreeAt s st left i) (shown d place s) o o₁ end r₁
-      → Going d s st left place a n o₀ at (record_at st i).next (todo - 1) o₁ r₁
-  going_next some p = record {
-    able = both_next (shown d place s) (shown_all d place s) (able_like (like_first d place some) g.able) p;
-    finish = λ o' r q.
-        g.finish o' r (prints_like (like_first d place some) (both_prints (shown d place s) (shown_all d place s) p q));
-  }
+  pub going_next : {o₁ : Output} → k < n → Prints (TreeAt s st left i) (shown d place s) o o₁
+      → Going d s st left place a n o₀ (record_at st i).next (k + 1) o₁
+  going_next some p =
+      let fewer : n - (k + 1) ≡ n - k - 1 = omega arith in
+      record {
+        able = rw fewer (both_next (shown d place s) (shown_all d place s) (able_like (like_first d place (omega arith)) g.able) p);
+        finish = λ o' q.
+            g.finish o' (prints_like (like_first d place (omega arith)) (both_prints (shown d place s) (shown_all d place s) p (rw fewer at q)));
+      }
 
-  pub going_done : todo ≡ 0 → Prints (NodesAt s st left a n) (shown_all d place s) o₀ o at end
-  going_done e = g.finish o end (record { all = λ ns h room. none d s place o end ns (h.many ∙ e) })
+  pub going_done : n ≤ k → Prints (NodesAt s st left a n) (shown_all d place s) o₀ o
+  going_done all =
+      g.finish o (record { all = λ ns h room. none d s place o ns (let many = h.many in omega arith) })

@@ -90,3 +90,13 @@ pub by_place : (P : Place → Type 0) (place : Place) → P Place.Plain → P Pl
 by_place P Place.Plain p q r = p
 by_place P Place.Slashed p q r = q
 by_place P Place.Cell p q r = r
+
+-- a part is plain but under a slash
+pub plain_part : (k : One) → (k ≡ One.Slashed → ⊥) → Place.Plain ≡ place_of k
+unfolding place_of
+plain_part (One.OverOp c acc) h = refl
+plain_part (One.UnderOp c acc) h = refl
+plain_part One.Sqrt h = refl
+plain_part (One.Fenced t u) h = refl
+plain_part One.Slashed h = absurd (h refl)
+plain_part (One.Style d) h = refl

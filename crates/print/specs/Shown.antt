@@ -1,7 +1,8 @@
 -- What is printed at a place, what stands at an index of the store, and what it is to print it.
 -- Assumes nothing.
-use Rattle.std.specs.Prelude.{◌≡◌, true, List, [], ◌++◌, ℕ, ◌+◌, ◌*◌, ◌≤◌, ◌<◌, length}
+use Rattle.std.specs.Prelude.{◌≡◌, List, [], ◌++◌, ℕ, ◌+◌, ◌*◌, ◌≤◌, ◌<◌, length}
 use Rattle.text.specs.Put.{Room, Puts}
+use Rattle.text.specs.declared.put.Output.{Output}
 use Rattle.text.specs.declared.Dialect.{Dialect}
 use Rattle.ast.specs.declared.One.{One}
 use Rattle.ast.specs.Tree.{Node, Nodes, empty, ◌then◌}
@@ -59,11 +60,11 @@ pub record NodesAt (s st : List ℕ) (left i n : ℕ) (ns : Nodes) : Type 0 wher
   pub fits : hi * 24 ≤ length st
 
 -- there is room for the text of something that stands there
-pub record Printable {T : Type 0} (There : T → Type 0) (text : T → List ℕ) (o : List ℕ) (at : ℕ) : Type 0 where
+pub record Printable {T : Type 0} (There : T → Type 0) (text : T → List ℕ) (o : Output) : Type 0 where
   pub what : T
   pub there : There what
-  pub room : Room true o at (length (text what))
+  pub room : Room o (length (text what))
 
 -- of whatever stands there the text is put
-pub record Prints {T : Type 0} (There : T → Type 0) (text : T → List ℕ) (o o' : List ℕ) (at r : ℕ) : Type 0 where
-  pub all : (t : T) → There t → Room true o at (length (text t)) → Puts true o o' at (text t) r
+pub record Prints {T : Type 0} (There : T → Type 0) (text : T → List ℕ) (o o' : Output) : Type 0 where
+  pub all : (t : T) → There t → Room o (length (text t)) → Puts o o' (text t)

@@ -1,23 +1,17 @@
 -- A part of a list, taken apart.
 -- Assumes nothing.
 use mathlib.Core.Path.{◌≡◌}
-use mathlib.Core.List.{List, [], ◌∷◌}
-use Prim.Native.Nat.{ℕ, suc, ◌+◌, ◌-◌, ◌≤◌, ◌<◌}
+use mathlib.Core.List.{List, []}
+use Prim.Native.Nat.{ℕ, ◌+◌, ◌-◌, ◌≤◌, ◌<◌}
 use native.Mathlib.Omega.{arith}
-use native.Mathlib.Numerals.{add-one}
 use lib.ListN.{length, get_or, drop, length-take, length-drop, get_or-eq_default}
-use lib.Seq.{drop-cons, length-take-le, get_or-take, get_or-drop}
+use lib.Seq.{length-take-le, get_or-take, get_or-drop}
 use Rattle.text.specs.Text.{part}
 
 pub part_none : (s : List ℕ) (a e : ℕ) → e ≤ a → part a e s ≡ []
 part_none s a e h =
     let none : e - a ≡ 0 = omega arith in
     rw none
-
-pub part_cons : (s : List ℕ) (a e : ℕ) → a < e → e ≤ length s → part a e s ≡ get_or s a 0 ∷ part (a + 1) e s
-part_cons s a e less inside =
-    let more : e - a ≡ suc (e - (a + 1)) = omega arith in
-    rw (more, drop-cons s a 0 (omega arith), ← add-one a)
 
 pub part_length : (s : List ℕ) (a e : ℕ) → a ≤ e → e ≤ length s → length (part a e s) ≡ e - a
 part_length s a e less inside = length-take-le (e - a) (drop a s) (simp length-drop (omega arith))

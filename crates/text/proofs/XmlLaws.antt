@@ -6,9 +6,9 @@ use mathlib.Core.List.{List, [], ◌∷◌, ◌++◌, append_assoc}
 use mathlib.Core.Option.{Option, none, some}
 use Prim.Native.Nat.{ℕ, zero, suc, ◌+◌, ◌-◌, ◌*◌, ◌≤◌, ◌<◌}
 use native.Mathlib.Omega.{arith}
-use lib.Dec.{eqb, leb}
+use lib.Dec.{leb}
 use lib.ListN.{length, take, drop}
-use borrow.Author.Tests.{leb-true, ne_eqb, le-leb, lt-leb}
+use borrow.Author.Tests.{leb-true, ne_eqb}
 use Rattle.text.specs.Utf8.{Range, table, within, follow, begins, value, lead, encode, code_point}
 use Rattle.text.proofs.Cases.{both, never, by_test, by_order}
 use Rattle.text.proofs.EncodeLaws.{encode_1, encode_2, encode_3, encode_4}
@@ -68,42 +68,6 @@ here_forbidden s i h e = rw (byte_at s i h, forbidden) (rw (rw (byte_at s i h) a
 pub next_forbidden : (s : List ℕ) (i : ℕ) → i < length s → allows (code_point (drop i s)).code ≡ true → forbidden (drop i s) ≡ forbidden (drop (i + 1) s)
 unfolding forbidden
 next_forbidden s i h e = rw (byte_at s i h, forbidden) (rw (rw (byte_at s i h) at e))
-
--- ---- the ranges of production 2
-
-pub blank_not : (c : ℕ) → c < 0x20 → (c ≡ 9 → ⊥) → (c ≡ 10 → ⊥) → (c ≡ 13 → ⊥) → false ≡ allows c
-unfolding allows
-blank_not c h x y z = rw (ne_eqb c 9 x, ne_eqb c 10 y, ne_eqb c 13 z, lt-leb 0x20 c h, lt-leb 0xe000 c (omega arith), lt-leb 0x10000 c (omega arith))
-
-module _ (c : ℕ) (low : 0x20 ≤ c) where
-  no_9 : eqb c 9 ≡ false
-  no_9 = ne_eqb c 9 (λ e. omega arith)
-
-  no_10 : eqb c 10 ≡ false
-  no_10 = ne_eqb c 10 (λ e. omega arith)
-
-  no_13 : eqb c 13 ≡ false
-  no_13 = ne_eqb c 13 (λ e. omega arith)
-
-  pub first_range : c < 0xd800 → true ≡ allows c
-  unfolding allows
-  first_range h = rw (no_9, no_10, no_13, le-leb 0x20 c low, le-leb c 0xd7ff (omega arith))
-
-  pub surrogate : 0xd800 ≤ c → c < 0xe000 → false ≡ allows c
-  unfolding allows
-  surrogate g h = rw (no_9, no_10, no_13, le-leb 0x20 c low, lt-leb c 0xd7ff (omega arith), lt-leb 0xe000 c h, lt-leb 0x10000 c (omega arith))
-
-  pub second_range : 0xe000 ≤ c → c < 0xfffe → true ≡ allows c
-  unfolding allows
-  second_range g h = rw (no_9, no_10, no_13, le-leb 0x20 c low, lt-leb c 0xd7ff (omega arith), le-leb 0xe000 c g, le-leb c 0xfffd (omega arith))
-
-  pub non_character : 0xfffe ≤ c → c < 0x10000 → false ≡ allows c
-  unfolding allows
-  non_character g h = rw (no_9, no_10, no_13, le-leb 0x20 c low, lt-leb c 0xd7ff (omega arith), le-leb 0xe000 c (omega arith), lt-leb c 0xfffd (omega arith), lt-leb 0x10000 c h)
-
-  pub last_range : 0x10000 ≤ c → leb c 0x10ffff ≡ allows c
-  unfolding allows
-  last_range g = rw (no_9, no_10, no_13, le-leb 0x20 c low, lt-leb c 0xd7ff (omega arith), le-leb 0xe000 c (omega arith), lt-leb c 0xfffd (omega arith), le-leb 0x10000 c g)
 
 -- ---- parts of bytes without a forbidden character
 

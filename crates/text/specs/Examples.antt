@@ -3,14 +3,14 @@
 use Rattle.std.specs.Prelude.{◌≡◌, refl, true, false, [], ◌∷◌, map}
 use Rattle.text.specs.Utf8.{table, follow, goes_on, well_formed, begins, value, lead, code_point, encode}
 use Rattle.text.specs.Text.{bytes}
-use Rattle.text.specs.Put.{digits, unpacked}
+use Rattle.text.specs.Put.{digits}
 use Rattle.text.specs.Any.{any}
 use Rattle.text.specs.Xml.{allows, forbidden, xml_escape, xml_text, in_text}
 use Rattle.text.specs.declared.Dialect.{Dialect}
 
 -- whoever unfolds this unfolds all definitions of this crate but those of Xml, as an example has to; the second does so for these
 unfoldable pub text_opens : Unit {0}
-unfolding table follow goes_on well_formed begins value lead code_point encode bytes digits unpacked any
+unfolding table follow goes_on well_formed begins value lead code_point encode bytes digits any
 text_opens = tt
 
 unfoldable pub xml_opens : Unit {0}
@@ -55,7 +55,7 @@ unfolding text_opens
 decoded = refl
 
 -- a packed text: three bytes, and their number in the highest byte
-packed : unpacked 0x0300_0000_0069_6d6c ≡ bytes "lmi"
+packed : digits 3 0x0300_0000_0069_6d6c ≡ bytes "lmi"
 unfolding text_opens
 packed = refl
 

@@ -1,11 +1,11 @@
 -- What the code keeps of a row of the table while it reads on: how many bytes follow, and the range of the next one.
 -- Assumes nothing.
-use Rattle.std.specs.Prelude.{Bool, true, false, List, [], ◌∷◌, ℕ, zero, suc, replicate}
+use Rattle.std.specs.Prelude.{Bool, true, false, List, [], ◌∷◌, ℕ, zero, suc, replicate, Some, None}
+use Rattle.std.specs.Prelude as std
 use Rattle.std.proofs.Math.Option.{Option, none, some}
 use Rattle.text.specs.Utf8.{Range, ◌to◌, goes_on, begins, value, replacement}
 use Rattle.text.specs.declared.CodePoint.{CodePoint}
 use Rattle.text.specs.declared.Follow.{Follow}
-use Rattle.text.specs.declared.Follow.TheVariants.{Bytes, Nothing}
 
 -- the ranges of n bytes: the next from low to high, and any continuation bytes after it
 abbrev pub pending : ℕ → ℕ → ℕ → List Range
@@ -13,9 +13,9 @@ pending zero low high = []
 pending (suc n) low high = low to high ∷ replicate n (0x80 to 0xbf)
 
 -- the ranges that an answer of the code stands for
-abbrev pub ranges : Follow → Option (List Range)
-ranges (Bytes n low high) = some (pending n low high)
-ranges Nothing = none
+abbrev pub ranges : std.Option Follow → Option (List Range)
+ranges None = none
+ranges (Some f) = some (pending f.left f.low f.high)
 
 -- whether the bytes l go on with a byte in each of the ranges, where there are any, and then with whole rows
 abbrev pub after : Option (List Range) → List ℕ → Bool

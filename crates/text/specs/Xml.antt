@@ -1,10 +1,10 @@
 -- The characters of XML 1.0, and a formula's text in a dialect.
 -- Assumes nothing.
-use Rattle.std.specs.Prelude.{◌≡◌, Bool, true, false, not, ◌&&◌, ◌||◌, List, [], ◌∷◌, ◌++◌, ℕ, eqb, leb}
+use Rattle.std.specs.Prelude.{◌≡◌, Bool, true, false, not, ◌&&◌, ◌||◌, List, [], ◌∷◌, ◌++◌, ℕ, eqb, leb, Option, Some, None}
+use Rattle.std.specs.Borrow.{Bor}
 use Prim.Native.Char.{code}
 use Rattle.text.specs.Utf8.{code_point, encode}
 use Rattle.text.specs.Text.{bytes}
-use Rattle.text.specs.Put.{unpacked}
 use Rattle.text.specs.declared.Dialect.{Dialect}
 
 -- a character that XML 1.0 allows: its production 2, Char
@@ -34,7 +34,7 @@ unfoldable pub in_text : Dialect → List ℕ → List ℕ
 in_text Dialect.Old l = l
 in_text Dialect.Strict l = xml_text l
 
--- the reference that a dialect prints for a character, packed into a word; 0 says that the character stands as itself
-pub record Reference (d : Dialect) (c w : ℕ) : Type 0 where
-  pub escaped : (w ≡ 0 → ⊥) → unpacked w ≡ in_text d (encode c)
-  pub itself : w ≡ 0 → encode c ≡ in_text d (encode c)
+-- the reference that a dialect prints for a character, or that the character stands as itself
+abbrev pub Reference : Dialect → ℕ → Option (Bor (List ℕ)) → Type 0
+Reference d c (Some text) = text.now ≡ in_text d (encode c)
+Reference d c None = encode c ≡ in_text d (encode c)

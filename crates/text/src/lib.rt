@@ -4,10 +4,10 @@
 pub mod put;
 pub mod xml;
 
-ghost use Rattle.std.specs.Prelude.{◌≡◌, List, ◌∷◌, ℕ, suc, ◌≤◌, ◌<◌, length, drop};
+ghost use Rattle.std.specs.Prelude.{◌≡◌, Bool, List, ◌∷◌, ℕ, suc, ◌≤◌, ◌<◌, length, drop};
 ghost use Rattle.text.specs.Utf8.{table, follow, goes_on, well_formed, lead, replacement, code_point};
 ghost use Rattle.text.specs.Follow.{pending, ranges, after, read};
-ghost use Rattle.text.specs.Any.{contains, has_nul, is_ascii};
+ghost use Rattle.text.specs.Any.{any, contains, has_nul, is_ascii};
 
 // How markup is printed: byte for byte as the Rust prints it, or as XML that a strict reader takes.
 #[derive(Clone, Copy)]
@@ -23,60 +23,73 @@ pub struct CodePoint {
     pub width: usize,
 }
 
-// How many bytes follow, and the range of the next one; or that no text goes on so.
+// How many bytes follow, and the range of the next one.
 #[derive(Clone, Copy)]
-enum Follow {
-    Bytes(usize, u8, u8),
-    Nothing,
+struct Follow {
+    left: u8,
+    low: u8,
+    high: u8,
 }
 
-// What follows a first byte, by the rows of table 3-7.
-fn first_byte(b: u8) -> Follow
+impl Follow {
+    fn new(left: u8, low: u8, high: u8) -> Follow
+        ensures { result ≡ record { left = left; low = low; high = high } }
+    {
+        Follow { left, low, high }
+    }
+
+    // What follows the byte `b` where a text is to go on so; `None` if it may not go on with `b`.
+    fn step(self, b: u8) -> Option<Follow>
+        ensures { (l : List ℕ) → goes_on (pending self.left self.low self.high) (b ∷ l) ≡ after (ranges result) l }
+    {
+        if self.left == 0 {
+            return first_byte(b);
+        }
+        if b < self.low || self.high < b {
+            return None;
+        }
+        Some(Follow::new(self.left - 1, 0x80, 0xbf))
+    }
+}
+
+// What follows a first byte, by the rows of table 3-7; `None` for a byte that begins no row.
+#[tactic(auto, unfolding(crate::specs::Utf8::table, crate::specs::Utf8::follow))]
+fn first_byte(b: u8) -> Option<Follow>
     ensures { ranges result ≡ follow b table }
 {
     match b {
-        0x00..=0x7f => Follow::Bytes(0, 0x80, 0xbf),
-        0xc2..=0xdf => Follow::Bytes(1, 0x80, 0xbf),
-        0xe0 => Follow::Bytes(2, 0xa0, 0xbf),
-        0xe1..=0xec => Follow::Bytes(2, 0x80, 0xbf),
-        0xed => Follow::Bytes(2, 0x80, 0x9f),
-        0xee..=0xef => Follow::Bytes(2, 0x80, 0xbf),
-        0xf0 => Follow::Bytes(3, 0x90, 0xbf),
-        0xf1..=0xf3 => Follow::Bytes(3, 0x80, 0xbf),
-        0xf4 => Follow::Bytes(3, 0x80, 0x8f),
-        _ => Follow::Nothing,
+        0x00..=0x7f => Some(Follow::new(0, 0x80, 0xbf)),
+        0xc2..=0xdf => Some(Follow::new(1, 0x80, 0xbf)),
+        0xe0 => Some(Follow::new(2, 0xa0, 0xbf)),
+        0xe1..=0xec => Some(Follow::new(2, 0x80, 0xbf)),
+        0xed => Some(Follow::new(2, 0x80, 0x9f)),
+        0xee..=0xef => Some(Follow::new(2, 0x80, 0xbf)),
+        0xf0 => Some(Follow::new(3, 0x90, 0xbf)),
+        0xf1..=0xf3 => Some(Follow::new(3, 0x80, 0xbf)),
+        0xf4 => Some(Follow::new(3, 0x80, 0x8f)),
+        _ => None,
     }
 }
 
-// What follows the byte `b` where `left` bytes were to follow, the next from `low` to `high`.
-fn step(left: usize, low: u8, high: u8, b: u8) -> Follow
-    ensures { (l : List ℕ) → goes_on (pending left low high) (b ∷ l) ≡ after (ranges result) l }
+// Whether a byte passes the test. It goes on to the end in any case, so that many bytes are tested at once.
+fn any<F: Fn(u8) -> bool>(s: &[u8], passes: F) -> bool
+    requires { F.IsAlwaysCallable passes }
+    ensures { (test : ℕ → Bool) → ((b : ℕ) (r : Bool) → F.post passes b r → r ≡ test b) → result ≡ any test s.now }
 {
-    if left == 0 {
-        return first_byte(b);
+    let mut found = false;
+    for &b in s {
+        if passes(b) {
+            found = true;
+        }
     }
-    if b < low {
-        return Follow::Nothing;
-    }
-    if high < b {
-        return Follow::Nothing;
-    }
-    Follow::Bytes(left - 1, 0x80, 0xbf)
+    found
 }
 
-// Whether no byte is above 127. It goes on to the end in any case, so that many bytes are tested at once.
+// Whether no byte is above 127.
 fn is_ascii(s: &[u8]) -> bool
     ensures { result ≡ is_ascii s.now }
 {
-    let mut found = false;
-    let mut i = 0;
-    while i < s.len() {
-        if 0x7f < s[i] {
-            found = true;
-        }
-        i += 1;
-    }
-    !found
+    !any(s, |b| 0x7f < b)
 }
 
 // Whether the bytes are well-formed UTF-8, in one pass; ASCII is.
@@ -86,43 +99,24 @@ pub fn well_formed(s: &[u8]) -> bool
     if is_ascii(s) {
         return true;
     }
-    let mut left = 0;
-    let mut low = 0x80u8;
-    let mut high = 0xbfu8;
-    let mut i = 0;
-    while i < s.len() {
-        let b = s[i];
-        if left == 0 {
-            if b < 0x80 {
-                i += 1;
-                continue;
-            }
+    let mut next = Follow::new(0, 0x80, 0xbf);
+    for &b in s {
+        if b < 0x80 && next.left == 0 {
+            continue;
         }
-        let next = step(left, low, high, b);
-        let Follow::Bytes(n, from, last) = next else {
+        let Some(behind) = next.step(b) else {
             return false;
         };
-        left = n;
-        low = from;
-        high = last;
-        i += 1;
+        next = behind;
     }
-    left == 0
+    next.left == 0
 }
 
-// Whether a byte is b. It goes on to the end as `is_ascii` does.
+// Whether a byte is b.
 pub fn contains(s: &[u8], b: u8) -> bool
     ensures { result ≡ contains b s.now }
 {
-    let mut found = false;
-    let mut i = 0;
-    while i < s.len() {
-        if s[i] == b {
-            found = true;
-        }
-        i += 1;
-    }
-    found
+    any(s, |c| c == b)
 }
 
 // Whether a byte is NUL.
@@ -132,15 +126,9 @@ pub fn has_nul(s: &[u8]) -> bool
     contains(s, 0)
 }
 
-// A byte as a part of a code point.
-fn wide(x: u8) -> u32
-    ensures { (result ≡ x) × (result < 256) }
-{
-    x as u32
-}
-
 // The marking bits of a first byte that `n` bytes follow.
-fn lead(n: usize) -> u8
+#[tactic(auto, unfolding(crate::specs::Utf8::lead))]
+fn lead(n: u8) -> u8
     requires { n ≤ 3 }
     ensures { result ≡ lead n }
 {
@@ -162,36 +150,29 @@ fn replacement() -> CodePoint
     }
 }
 
-// The code point whose first byte gave `bits`, with `n` bytes from `at` on to follow, the next from `low` to `high`.
-fn tail(s: &[u8], at: usize, n: usize, low: u8, high: u8, bits: u32) -> CodePoint
-    requires { (n ≤ 3) × ((n ≡ 0 → ⊥) → 128 ≤ low) × (bits < 256) }
-    ensures { result ≡ read (suc n) bits (pending n low high) (drop at s.now) }
+// The code point whose first byte gave `bits` and whose other bytes, as `next` says, are to begin `rest`.
+fn tail(rest: &[u8], next: Follow, bits: u32) -> CodePoint
+    requires { (next.left ≤ 3) × ((next.left ≡ 0 → ⊥) → 128 ≤ next.low) × (bits < 256) }
+    ensures { result ≡ read (suc next.left) bits (pending next.left next.low next.high) rest.now }
 {
-    let mut left = n;
-    let mut from = low;
-    let mut last = high;
+    let mut low = next.low;
+    let mut high = next.high;
     let mut value = bits;
-    let mut i = at;
-    while left != 0 {
-        if s.len() <= i {
+    let count = usize::from(next.left);
+    for i in 0..count {
+        let Some(&b) = rest.get(i) else {
+            return replacement();
+        };
+        if b < low || high < b {
             return replacement();
         }
-        let b = s[i];
-        if b < from {
-            return replacement();
-        }
-        if last < b {
-            return replacement();
-        }
-        value = value * 64 + wide(b - 0x80);
-        left -= 1;
-        from = 0x80;
-        last = 0xbf;
-        i += 1;
+        value = value * 64 + u32::from(b - 0x80);
+        low = 0x80;
+        high = 0xbf;
     }
     CodePoint {
         code: value,
-        width: n + 1,
+        width: count + 1,
     }
 }
 
@@ -200,20 +181,18 @@ pub fn code_point(s: &[u8], at: usize) -> CodePoint
     requires { at ≤ length s.now }
     ensures { result ≡ code_point (drop at s.now) }
 {
-    if s.len() <= at {
+    let Some(&b) = s.get(at) else {
         return CodePoint { code: 0, width: 0 };
-    }
-    let b = s[at];
+    };
     if b < 0x80 {
         return CodePoint {
-            code: wide(b),
+            code: u32::from(b),
             width: 1,
         };
     }
-    let next = first_byte(b);
-    let Follow::Bytes(n, low, high) = next else {
+    let Some(next) = first_byte(b) else {
         return replacement();
     };
-    let bits = wide(b - lead(n));
-    tail(s, at + 1, n, low, high, bits)
+    let bits = u32::from(b - lead(next.left));
+    tail(&s[at + 1..], next, bits)
 }

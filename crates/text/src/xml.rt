@@ -1,103 +1,71 @@
 // A formula's text in a dialect, and the characters that XML 1.0 forbids.
-ghost use Rattle.std.specs.Prelude.{◌≡◌, ◌<◌, length};
+ghost use Rattle.std.specs.Prelude.{◌≡◌, length};
 ghost use Rattle.text.specs.Utf8.{encode};
 ghost use Rattle.text.specs.Put.{Room, Puts};
 ghost use Rattle.text.specs.Xml.{allows, forbidden, in_text, Reference};
 
-use crate::put::{code_point_len, put_code_point, put_packed};
+use crate::put::{Output, code_point_len};
 use crate::{Dialect, code_point};
 
-// The reference for a character that XML would read as markup, packed, and 0 for any other.
-fn xml_reference(c: u32) -> u64
+// The reference for a character that XML would read as markup.
+fn xml_reference(c: u32) -> Option<&'static [u8]>
     ensures { Reference Dialect.Strict c result }
 {
     match c {
-        38 => 0x0500_003b_706d_6126, // &amp;
-        60 => 0x0400_0000_3b74_6c26, // &lt;
-        62 => 0x0400_0000_3b74_6726, // &gt;
-        _ => 0,
+        38 => Some(b"&amp;"),
+        60 => Some(b"&lt;"),
+        62 => Some(b"&gt;"),
+        _ => None,
     }
 }
 
-// The reference that a dialect prints for a character, packed, and 0 where the character stands as itself.
-pub fn reference(dialect: Dialect, c: u32) -> u64
+// The reference that a dialect prints for a character, where the character does not stand as itself.
+pub fn reference(dialect: Dialect, c: u32) -> Option<&'static [u8]>
     ensures { Reference dialect c result }
 {
     match dialect {
-        Dialect::Old => 0,
+        Dialect::Old => None,
         Dialect::Strict => xml_reference(c),
     }
 }
 
 // Puts a character of a formula's text.
-pub fn put_character(dialect: Dialect, c: u32, out: &mut [u8], at: usize, write: bool) -> usize
-    requires { Room write out.old at (length (in_text dialect (encode c))) }
-    ensures { Puts write out.old out.new at (in_text dialect (encode c)) result }
+pub fn put_character(dialect: Dialect, c: u32, out: &mut Output)
+    requires { Room out.old (length (in_text dialect (encode c))) }
+    ensures { Puts out.old out.new (in_text dialect (encode c)) }
 {
-    let w = reference(dialect, c);
-    if w != 0 {
-        return put_packed(w, out, at, write);
+    match reference(dialect, c) {
+        Some(text) => out.put(text),
+        None => out.put_code_point(c),
     }
-    put_code_point(c, out, at, write)
 }
 
 // The number of bytes of a character of a formula's text.
 pub fn character_len(dialect: Dialect, c: u32) -> usize
     ensures { result ≡ length (in_text dialect (encode c)) }
 {
-    let w = reference(dialect, c);
-    if w != 0 {
-        return (w / 0x100_0000_0000_0000) as usize;
-    }
-    code_point_len(c)
-}
-
-// Whether XML 1.0 allows a character below 32.
-fn is_blank(c: u32) -> bool
-    requires { c < 0x20 }
-    ensures { result ≡ allows c }
-{
-    match c {
-        9 => true,
-        10 => true,
-        13 => true,
-        _ => false,
+    match reference(dialect, c) {
+        Some(text) => text.len(),
+        None => code_point_len(c),
     }
 }
 
 // Whether XML 1.0 allows a character.
+#[tactic(auto, unfolding(crate::specs::Xml::allows))]
 fn is_allowed(c: u32) -> bool
     ensures { result ≡ allows c }
 {
-    if c < 0x20 {
-        return is_blank(c);
-    }
-    if c < 0xd800 {
-        return true;
-    }
-    if c < 0xe000 {
-        return false;
-    }
-    if c < 0xfffe {
-        return true;
-    }
-    if c < 0x10000 {
-        return false;
-    }
-    c <= 0x10ffff
+    matches!(c, 0x9 | 0xa | 0xd | 0x20..=0xd7ff | 0xe000..=0xfffd | 0x10000..=0x10ffff)
 }
 
 // Whether a body holds a character that XML 1.0 forbids.
 pub fn is_forbidden(s: &[u8]) -> bool
     ensures { result ≡ forbidden s.now }
 {
-    let mut i: usize = 0;
-    while i < s.len() {
-        let p = code_point(s, i);
-        if !is_allowed(p.code) {
+    for i in 0..s.len() {
+        if !is_allowed(code_point(s, i).code) {
             return true;
         }
-        i += 1;
     }
     false
 }

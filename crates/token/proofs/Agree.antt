@@ -5,7 +5,7 @@ use mathlib.Core.Path.{refl, sym, ap, ◌∙◌, subst}
 use native.Mathlib.Omega.{arith}
 use borrow.Author.Tests.{ltb-true, eqb-false, not-true}
 use Rattle.token.specs.declared.Token.{Token}
-use Rattle.token.specs.declared.Ordering.TheVariants.{Less}
+use Rattle.std.specs.declared.cmp.Ordering.TheVariants.{Less}
 use Rattle.token.specs.Texts.{texts, text, widths, width}
 use Rattle.token.specs.Arms.{arms}
 use Rattle.token.specs.Command.{own_arms, from_command}

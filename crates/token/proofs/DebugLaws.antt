@@ -1,26 +1,28 @@
 -- Escapes go byte by byte, a graphic character stands as itself, and of a text escaped twice a dialect changes only what XML reads as markup.
 -- Assumes nothing.
-use Rattle.std.specs.Prelude.{◌≡◌, ℕ, ◌+◌, ◌/◌, ◌%◌, ◌<◌, ◌≤◌, Bool, true, false, List, [], ◌∷◌, ◌++◌, length, get_or}
+use Rattle.std.specs.Prelude.{◌≡◌, ℕ, suc, Option, Some, None, ◌+◌, ◌<◌, ◌≤◌, true, false, List, [], ◌∷◌, ◌++◌, length, get_or}
 use mathlib.Core.Path.{refl, sym, ap, ◌∙◌}
 use mathlib.Core.Logic.{inl, inr}
-use mathlib.Core.List.{append_assoc}
+use mathlib.Core.List.{append_assoc, append-nil}
+use lib.ListN.{drop, drop_of_length-le}
+use lib.Seq.{drop-cons}
+use native.Mathlib.Numerals.{add-one}
+use Rattle.std.specs.Borrow.{Bor}
 use native.Mathlib.Omega.{arith}
-use borrow.Author.Tests.{le-ltb, ne_eqb}
+use lib.Dec.{leb}
+use borrow.Author.Tests.{le-ltb, leb-true, ne_eqb}
 use types.Run.{OneOf}
 use Rattle.text.specs.declared.Dialect.{Dialect}
 use Rattle.text.specs.Utf8.{encode}
-use Rattle.text.specs.Put.{Room, Puts, digits, unpacked}
 use Rattle.text.specs.Xml.{xml_escape, xml_text, in_text, Reference}
 use Rattle.text.specs.Examples.{text_opens}
 use Rattle.text.specs.Text.{bytes, part}
 use Rattle.text.proofs.Cases.{never}
 use Rattle.text.proofs.Keys.{among, outside}
-use Rattle.text.proofs.PartLaws.{part_none, part_cons}
-use Rattle.text.proofs.PutLaws.{room_as, puts_as}
 use Rattle.text.proofs.Tabled.{tab, each}
 use Rattle.text.proofs.XmlLaws.{text_append, same_text}
 use Rattle.token.specs.declared.Undefined.{Undefined}
-use Rattle.token.specs.Debug.{digit, hexadecimal, control, escapes, escape_by, escape, or_nul, command_name, debug}
+use Rattle.token.specs.Debug.{digit, hexadecimal, control, escapes, escape_by, escape, or_nul, command_name, variant_name, command_text, debug, Stands}
 
 -- an escape for another byte does not apply
 miss : (k : ℕ) (t : List ℕ) (es : List (ℕ × List ℕ)) (b : ℕ) → (b ≡ k → ⊥) → escape_by ((k, t) ∷ es) b ≡ escape_by es b
@@ -46,14 +48,6 @@ pub plain_twice : (b : ℕ) → escape_by escapes b ≡ b ∷ [] → escape (esc
 unfolding escape
 plain_twice b e = rw (e, escape, e)
 
--- one byte, packed
-pub packed_byte : (b : ℕ) → b < 256 → unpacked (0x100_0000_0000_0000 + b) ≡ b ∷ []
-unfolding unpacked digits
-packed_byte b h =
-    let one : (0x100_0000_0000_0000 + b) / 0x100_0000_0000_0000 ≡ 1 = omega arith in
-    let low : (0x100_0000_0000_0000 + b) % 256 ≡ b = omega arith in
-    rw (one, digits, low)
-
 pub escape_append : (l m : List ℕ) → escape (l ++ m) ≡ escape l ++ escape m
 unfolding escape
 escape_append [] m = refl
@@ -68,14 +62,14 @@ markup = 38 ∷ 60 ∷ 62 ∷ []
 abbrev twice : ℕ → List ℕ
 twice b = escape (escape_by escapes b)
 
-marked_at : (k b w : ℕ) → b ≡ k → (encode k ≡ xml_text (encode k) → ⊥) → xml_text (encode k) ≡ xml_text (twice k) → Reference Dialect.Strict b w
-    → unpacked w ≡ in_text Dialect.Strict (twice b)
+-- a text that stands for such a byte in the strict dialect
+marked_at : (k b : ℕ) (r : Option (Bor (List ℕ))) → b ≡ k → (encode k ≡ xml_text (encode k) → ⊥) → xml_text (encode k) ≡ xml_text (twice k) → Reference Dialect.Strict b r
+    → Stands (in_text Dialect.Strict (twice b)) b r
 unfolding in_text
-marked_at k b w e some same r =
-    let there : Reference Dialect.Strict k w = rw e at r in
-    rw e (there.escaped (λ z. some (there.itself z)) ∙ same)
+marked_at k b (Some text) e some same r = rw e (rw e at r ∙ same)
+marked_at k b None e some same r = absurd (some (rw e at r))
 
-pub marked : (b w : ℕ) → OneOf markup b → Reference Dialect.Strict b w → unpacked w ≡ in_text Dialect.Strict (twice b)
+pub marked : (b : ℕ) (r : Option (Bor (List ℕ))) → OneOf markup b → Reference Dialect.Strict b r → Stands (in_text Dialect.Strict (twice b)) b r
 unfolding text_opens xml_text xml_escape escape escapes escape_by control
 marked b w (inl e) r = marked_at 38 b w e (λ z. never cc) refl r
 marked b w (inr (inl e)) r = marked_at 60 b w e (λ z. never cc) refl r
@@ -96,47 +90,67 @@ unmarked b h other =
     let q = each (λ i. unless i (xml_text (twice i))) (λ i. unless i (twice i)) 256 all_unmarked b h in
     rw (none, unless) at q
 
+-- no byte is longer than seven, in either dialect: one test of all bytes each
+all_short : (tab (λ b. leb (length (twice b)) 7) 256 ≡ tab (λ b. true) 256) × (tab (λ b. leb (length (xml_text (twice b))) 7) 256 ≡ tab (λ b. true) 256)
+unfolding text_opens xml_text xml_escape digit hexadecimal escape escapes escape_by control
+all_short = (refl, refl)
+
+pub short_byte : (d : Dialect) (b : ℕ) → b < 256 → length (in_text d (twice b)) ≤ 7
+unfolding in_text
+short_byte Dialect.Old b h = leb-true _ 7 (each (λ i. leb (length (twice i)) 7) (λ i. true) 256 all_short.0 b h)
+short_byte Dialect.Strict b h = leb-true _ 7 (each (λ i. leb (length (xml_text (twice i))) 7) (λ i. true) 256 all_short.1 b h)
+
 -- a byte escaped twice, and the first of a part
 pub twice_cons : (b : ℕ) (l : List ℕ) → escape (escape (b ∷ l)) ≡ escape (escape_by escapes b) ++ escape (escape l)
 unfolding escape
 twice_cons b l = escape_append (escape_by escapes b) (escape l)
 
-pub twice_part : (d : Dialect) (s : List ℕ) (i e : ℕ) → i < e → e ≤ length s
-    → in_text d (escape (escape (part i e s))) ≡ in_text d (escape (escape_by escapes (get_or s i 0))) ++ in_text d (escape (escape (part (i + 1) e s)))
-twice_part d s i e less inside =
-    rw (part_cons s i e less inside, twice_cons (get_or s i 0) (part (i + 1) e s)) (text_append d _ _)
+pub twice_next : (d : Dialect) (l : List ℕ) (i : ℕ) → i < length l
+    → in_text d (escape (escape (drop i l))) ≡ in_text d (escape (escape_by escapes (get_or l i 0))) ++ in_text d (escape (escape (drop (i + 1) l)))
+twice_next d l i h =
+    rw (add-one, drop-cons l i 0 h, twice_cons (get_or l i 0) (drop (suc i) l)) (text_append d _ _)
 
-pub twice_none : (d : Dialect) (s : List ℕ) (i e : ℕ) → e ≤ i → in_text d (escape (escape (part i e s))) ≡ []
+pub twice_none : (d : Dialect) (l : List ℕ) (i : ℕ) → length l ≤ i → in_text d (escape (escape (drop i l))) ≡ []
 unfolding escape xml_text
-twice_none d s i e h = rw (part_none s i e h) (same_text d [] refl)
+twice_none d l i h = rw (drop_of_length-le l h) (same_text d [] refl)
 
 -- the Debug text of a token that carries no name, which no dialect changes
-module _ {write : Bool} {o : List ℕ} {at : ℕ} (d : Dialect) (s : List ℕ) {u v : Undefined} (is : u ≡ v) (same : xml_text (escape (debug s v)) ≡ escape (debug s v)) where
-  pub fixed_room : Room write o at (length (in_text d (escape (debug s u)))) → Room write o at (length (escape (debug s v)))
-  fixed_room room = room_as (same_text d (escape (debug s v)) same) (rw is at room)
+pub plain_debug : (d : Dialect) (s : List ℕ) (u : Undefined) → ((a e : ℕ) → u ≡ Undefined.Command a e → ⊥)
+    → in_text d (escape (debug s u)) ≡ variant_name u
+unfolding text_opens xml_escape xml_text escapes escape_by escape control debug variant_name
+plain_debug d s Undefined.EOF h = same_text d (bytes "EOF") refl
+plain_debug d s Undefined.End h = same_text d (bytes "End") refl
+plain_debug d s Undefined.Right h = same_text d (bytes "Right") refl
+plain_debug d s Undefined.RBrace h = same_text d (bytes "RBrace") refl
+plain_debug d s Undefined.Underscore h = same_text d (bytes "Underscore") refl
+plain_debug d s Undefined.Circumflex h = same_text d (bytes "Circumflex") refl
+plain_debug d s (Undefined.Command a e) h = absurd (h a e refl)
 
-  pub fixed_put : {o' : List ℕ} {r : ℕ} → Puts write o o' at (escape (debug s v)) r → Puts write o o' at (in_text d (escape (debug s u))) r
-  fixed_put p = rw is (puts_as (same_text d (escape (debug s v)) same) p)
+-- of a command it is that of its name
+pub command_debug : (d : Dialect) (s : List ℕ) (a e : ℕ) → in_text d (escape (debug s (Undefined.Command a e))) ≡ command_text d (part a e s)
+unfolding debug command_text command_name
+command_debug d s a e = refl
 
--- the name of a command
-pub name_none : (s : List ℕ) (a e : ℕ) → a ≡ e → command_name s a e ≡ 0 ∷ []
-unfolding command_name or_nul
-name_none s a e same = rw (part_none s a e (omega arith))
-
-pub name_some : (s : List ℕ) (a e : ℕ) → a < e → e ≤ length s → command_name s a e ≡ part a e s
-unfolding command_name or_nul
-name_some s a e less inside = rw (part_cons s a e less inside)
-
--- the Debug text of a command in three pieces
-pub command_pieces : (d : Dialect) (s : List ℕ) (a e : ℕ)
-    → in_text d (escape (debug s (Undefined.Command a e)))
-    ≡ escape (bytes "Command(\"") ++ in_text d (escape (escape (command_name s a e))) ++ escape (bytes "\")")
-unfolding text_opens xml_text xml_escape escape escapes escape_by control debug
-command_pieces d s a e =
+-- .. in three pieces
+pub command_pieces : (d : Dialect) (name : List ℕ)
+    → command_text d name ≡ escape (bytes "Command(\"") ++ in_text d (escape (escape (or_nul name))) ++ escape (bytes "\")")
+unfolding text_opens xml_text xml_escape escape escapes escape_by control command_text
+command_pieces d l =
     let front = bytes "Command(\"" in
-    let name = escape (command_name s a e) in
+    let name = escape (or_nul l) in
     let back = bytes "\")" in
     ap (in_text d) (escape_append front (name ++ back) ∙ rw (escape_append name back))
     ∙ text_append d (escape front) (escape name ++ escape back)
     ∙ rw (text_append d (escape name) (escape back), same_text d (escape front) refl, same_text d (escape back) refl)
     (sym (append_assoc (escape front) (in_text d (escape name)) (escape back)))
+
+-- the name of a command: none is a NUL
+pub nul_none : (l : List ℕ) → length l ≡ 0 → escape (escape (or_nul l)) ≡ escape (escape_by escapes 0)
+unfolding or_nul escape
+nul_none [] h = simp append-nil
+nul_none (b ∷ l) h = absurd (omega arith)
+
+pub nul_some : (l : List ℕ) → (length l ≡ 0 → ⊥) → or_nul l ≡ l
+unfolding or_nul
+nul_some [] h = absurd (h refl)
+nul_some (b ∷ l) h = refl

@@ -7,8 +7,8 @@ use native.Mathlib.Nat.{le_trans, le_of_lt, le_of_suc-le-suc, not-suc-le-zero, e
 use native.Mathlib.Numerals.{add-one}
 use native.Mathlib.Omega.{arith}
 use borrow.Author.Tests.{lt-ltb, le-ltb}
-use Rattle.token.specs.declared.Ordering.{Ordering}
-use Rattle.token.specs.declared.Ordering.TheVariants.{Less, Equal, Greater}
+use Rattle.std.specs.declared.cmp.Ordering.{Ordering}
+use Rattle.std.specs.declared.cmp.Ordering.TheVariants.{Less, Equal, Greater}
 use Rattle.token.specs.Key.{step, cmp}
 use Rattle.text.proofs.Cases.{never, by_order, by_three}
 

@@ -9,18 +9,12 @@ use native.Mathlib.Omega.{arith}
 use lib.Dec.{lit<}
 use lib.ListN.{get_or-eq_default}
 use lib.Seq.{get_or-drop, ext_get_or}
-use Rattle.text.specs.Text.{part}
-use Rattle.text.proofs.PartLaws.{part_length, part_in, part_out}
 use Rattle.token.specs.Key.{packed, word_of, words_from, word_count, words}
 use Rattle.text.proofs.Cases.{by_order}
 
 -- ---- bytes
 abbrev pub Bytes : List ℕ → Type 0
 Bytes l = (i : ℕ) → get_or l i 0 < 256
-
-pub part_bytes : (l : List ℕ) (a e : ℕ) → Bytes l → Bytes (part a e l)
-part_bytes l a e b i =
-    by_order (a + i) e (λ h. rw (part_in l a e i h) (b (a + i))) (λ h. rw (part_out l a e i h) (omega arith))
 
 drop_bytes : (n : ℕ) (l : List ℕ) → Bytes l → Bytes (drop n l)
 drop_bytes n l b i = rw get_or-drop (b (n + i))
@@ -112,19 +106,6 @@ same_name l m name name' e =
     let ge : length m < length l → ⊥ = no_shorter m l (sym e) name'.bytes name in
     ext_get_or 0 l m (omega arith) (λ i h. words_at l m e name.bytes name'.bytes i (omega arith))
 
--- ---- when a part of a list is such a name
-module _ (l : List ℕ) (a e : ℕ) (ae : a ≤ e) (el : e ≤ length l) where
-  part_last : a < e → get_or (part a e l) (length (part a e l) - 1) 0 ≡ get_or l (e - 1) 0
-  part_last h =
-      let n = part_length l a e ae el in
-      let i : a + (length (part a e l) - 1) ≡ e - 1 = omega arith in
-      part_in l a e (length (part a e l) - 1) (omega arith) ∙ ap (λ k. get_or l k 0) i
-
-  pub empty_part : a ≡ e → Name (part a e l) → ⊥
-  empty_part h name = name.ends (part_out l a e (length (part a e l) - 1) (omega arith))
-
-  pub zero_part : (a ≡ e → ⊥) → get_or l (e - 1) 0 ≡ 0 → Name (part a e l) → ⊥
-  zero_part h z name = name.ends (part_last (omega arith) ∙ z)
-
-  pub name_part : Bytes l → (a ≡ e → ⊥) → (get_or l (e - 1) 0 ≡ 0 → ⊥) → Name (part a e l)
-  name_part b h z = record { bytes = part_bytes l a e b; ends = λ q. z (sym (part_last (omega arith)) ∙ q) }
+-- ---- when a list is such a name
+pub empty_name : (l : List ℕ) → length l ≡ 0 → Name l → ⊥
+empty_name l h name = name.ends (get_or-eq_default l 0 (omega arith))

@@ -108,31 +108,29 @@ all_marked = refl
 marks : (i : ℕ) → i < size → (below (key i) ≡ true) × (leb 0x80000000 (entry_at i).gives ≡ true)
 marks i h = both (below (key i)) (leb 0x80000000 (entry_at i).gives) (each marked (λ i. true) size all_marked i h)
 
-module _ {t : List ℕ} (e : t ≡ rows) (i : ℕ) (h : i < size) where
-  pub name_word : (k : ℕ) → k < length (key i) → get_or t (start i + k) 0 ≡ get_or (key i) k 0
+module _ (i : ℕ) (h : i < size) where
+  pub name_word : (k : ℕ) → k < length (key i) → get_or rows (start i + k) 0 ≡ get_or (key i) k 0
   unfolding rows start key name_at row
   name_word k l =
-      ap (λ t. get_or t (start i + k) 0) e
-      ∙ word_flat entries ("" => 0) i k (omega (arith, sized)) (omega (arith, row_length (entry_at i)))
+      word_flat entries ("" => 0) i k (omega (arith, sized)) (omega (arith, row_length (entry_at i)))
       ∙ get_or-append (key i) _ 0 k l
 
-  pub name_below : (k : ℕ) → k < length (key i) → get_or t (start i + k) 0 < 0x80000000
+  pub name_below : (k : ℕ) → k < length (key i) → get_or rows (start i + k) 0 < 0x80000000
   name_below k l = rw (name_word k l) (below_at (key i) (marks i h).0 k l)
 
-  pub code_word : get_or t (start i + length (key i)) 0 ≡ (entry_at i).gives
+  pub code_word : get_or rows (start i + length (key i)) 0 ≡ (entry_at i).gives
   unfolding rows start key name_at row
   code_word =
       let q : length (key i) ≡ length (key i) + 0 = omega arith in
-      ap (λ t. get_or t (start i + length (key i)) 0) e
-      ∙ word_flat entries ("" => 0) i (length (key i)) (omega (arith, sized)) (omega (arith, row_length (entry_at i)))
+      word_flat entries ("" => 0) i (length (key i)) (omega (arith, sized)) (omega (arith, row_length (entry_at i)))
       ∙ ap (λ n. get_or (row (entry_at i)) n 0) q
       ∙ get_or-append-add (key i) (L.◌∷◌ (entry_at i).gives L.[]) 0 0
 
-  pub code_marked : 0x80000000 ≤ get_or t (start i + length (key i)) 0
+  pub code_marked : 0x80000000 ≤ get_or rows (start i + length (key i)) 0
   code_marked = rw code_word (leb-true 0x80000000 (entry_at i).gives (marks i h).1)
 
   -- the token of the code
-  pub code_token : token_of (get_or t (start i + length (key i)) 0) ≡ token_at i
+  pub code_token : token_of (get_or rows (start i + length (key i)) 0) ≡ token_at i
   unfolding token_at
   code_token = ap token_of code_word
 
@@ -143,35 +141,35 @@ holder p h =
     let r = has_flat entries p h in
     (r.0, omega (arith, sized), r.2, rw (add-one r.0) r.3)
 
-module _ {t : List ℕ} (e : t ≡ rows) (i : ℕ) (h : i < size) where
-  pub no_code : (q p : ℕ) → start i ≤ q → q < p → p < start (i + 1) → get_or t q 0 < 0x80000000
+module _ (i : ℕ) (h : i < size) where
+  pub no_code : (q p : ℕ) → start i ≤ q → q < p → p < start (i + 1) → get_or rows q 0 < 0x80000000
   no_code q p l m n =
       let next = start_next i h in
       let is : start i + (q - start i) ≡ q = omega arith in
-      rw is at (name_below e i h (q - start i) (omega arith))
+      rw is at (name_below i h (q - start i) (omega arith))
 
-pub a_code : {t : List ℕ} → t ≡ rows → (i q : ℕ) → i < size → start i ≡ q + 1 → 0x80000000 ≤ get_or t q 0
-a_code e zero q h b = let first = start_first in absurd (omega arith)
-a_code {t} e (suc i) q h b =
+pub a_code : (i q : ℕ) → i < size → start i ≡ q + 1 → 0x80000000 ≤ get_or rows q 0
+a_code zero q h b = let first = start_first in absurd (omega arith)
+a_code (suc i) q h b =
     let next = rw (add-one i) at (start_next i (omega arith)) in
     let is : start i + length (key i) ≡ q = omega arith in
-    rw is at (code_marked e i (omega arith))
+    rw is at (code_marked i (omega arith))
 
 -- going back from p: what is not behind a code is not the row's first word, and what is, is
-pub not_first : {t : List ℕ} → t ≡ rows → (i at : ℕ) → i < size → start i ≤ at → 0 < at → get_or t (at - 1) 0 < 0x80000000 → start i ≤ at - 1
-not_first e i at h l m word =
+pub not_first : (i at : ℕ) → i < size → start i ≤ at → 0 < at → get_or rows (at - 1) 0 < 0x80000000 → start i ≤ at - 1
+not_first i at h l m word =
     by_order (start i) at (λ less. omega arith)
-    (λ same. let code = a_code e i (at - 1) h (omega arith) in absurd (omega arith))
+    (λ same. let code = a_code i (at - 1) h (omega arith) in absurd (omega arith))
 
-pub has_row : {t : List ℕ} → t ≡ rows → (p at : ℕ) → p < length rows → at ≤ p
+pub has_row : (p at : ℕ) → p < length rows → at ≤ p
     → ((i : ℕ) → i < size → start i ≤ p → p < start (i + 1) → start i ≤ at)
-    → (0 < at → 0x80000000 ≤ get_or t (at - 1) 0)
+    → (0 < at → 0x80000000 ≤ get_or rows (at - 1) 0)
     → (i : ℕ) × Has p at i
-has_row e p at h l behind code =
+has_row p at h l behind code =
     let r = holder p h in
     let low = behind r.0 r.1 r.2 r.3 in
     let begins : at ≡ start r.0 = by_order (start r.0) at (λ less. let mark = code (omega arith) in
-    let word = no_code e r.0 r.1 (at - 1) p (omega arith) (omega arith) r.3 in
+    let word = no_code r.0 r.1 (at - 1) p (omega arith) (omega arith) r.3 in
     absurd (omega arith))
     (λ same. omega arith) in
     (r.0, record { row = record { inside = r.1; begins = begins }; from = l; to = r.3 })

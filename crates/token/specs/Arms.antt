@@ -1,12 +1,11 @@
 -- The arms of `Token::from_command` in the Rust's order, spelled as there: `code` is a character's code point, and `text` and
 -- `width` number the fixed texts and the widths.
 -- Assumes nothing.
-use Rattle.std.specs.Prelude.{List, [], ◌∷◌}
+use Rattle.std.specs.Prelude.{List, [], ◌∷◌, Some, None}
 use Prim.Native.Char.{code}
 use Rattle.attribute.specs.declared.Variant.TheVariants.{Normal, Italic, Bold, BoldItalic, DoubleStruck, Script, Fraktur, SansSerif, Monospace}
 use Rattle.attribute.specs.declared.Accent.TheVariants.{True}
 use Rattle.attribute.specs.declared.DisplayStyle.TheVariants.{Block, Inline}
-use Rattle.token.specs.declared.Binomial.TheVariants.{Plain, Styled}
 use Rattle.token.specs.declared.Token.TheVariants.{Style, Text, Sqrt, Frac, Left, Right, Middle, Begin, End, NewLine, Binom, Overset, Underset, Overbrace, Underbrace, Space, Paren, Lim, Integral, Over, Under, BigOp, Big, Function, OperatorName, Letter, Operator, Slashed}
 use Rattle.token.specs.declared.Token.{Token}
 use Rattle.token.specs.Texts.{text, width}
@@ -36,9 +35,9 @@ arms =
     "begin" => Begin ∷
     "end" => End ∷
     "\\" => NewLine ∷
-    "binom" => Binom Plain ∷
-    "tbinom" => Binom (Styled Inline) ∷
-    "dbinom" => Binom (Styled Block) ∷
+    "binom" => Binom None ∷
+    "tbinom" => Binom (Some Inline) ∷
+    "dbinom" => Binom (Some Block) ∷
     "overset" => Overset ∷
     "underset" => Underset ∷
     "overbrace" => Overbrace (code "⏞") ∷

@@ -1,10 +1,9 @@
 -- The codes of the command table: the highest bit marks a code, the next seven are a form, and the form makes a token of the other 24.
 -- Assumes nothing.
-use Rattle.std.specs.Prelude.{ℕ, ◌/◌, ◌%◌, List, [], ◌∷◌, slice_index_or}
+use Rattle.std.specs.Prelude.{ℕ, ◌/◌, ◌%◌, List, [], ◌∷◌, slice_index_or, Some, None}
 use Rattle.attribute.specs.declared.Variant.TheVariants.{Normal, Italic, Bold, BoldItalic, DoubleStruck, Script, Fraktur, SansSerif, Monospace}
 use Rattle.attribute.specs.declared.Accent.TheVariants.{True}
 use Rattle.attribute.specs.declared.DisplayStyle.TheVariants.{Block, Inline}
-use Rattle.token.specs.declared.Binomial.TheVariants.{Plain, Styled}
 use Rattle.token.specs.declared.Token.{Token}
 use Rattle.token.specs.declared.Token.TheVariants.{EOF, Begin, End, NewLine, Left, Right, Middle, Paren, Frac, Binom, Overset, Underset, Overbrace, Underbrace, Sqrt, Integral, Lim, Space, Style, Big, Over, Under, Operator, BigOp, Letter, Function, OperatorName, Slashed, Text}
 
@@ -19,9 +18,9 @@ forms =
     (λ n. Middle) ∷
     Paren ∷
     (λ n. Frac) ∷
-    (λ n. Binom Plain) ∷
-    (λ n. Binom (Styled Block)) ∷
-    (λ n. Binom (Styled Inline)) ∷
+    (λ n. Binom None) ∷
+    (λ n. Binom (Some Block)) ∷
+    (λ n. Binom (Some Inline)) ∷
     (λ n. Overset) ∷
     (λ n. Underset) ∷
     Overbrace ∷

@@ -1,8 +1,11 @@
 -- The derived Debug text of the tokens that can become `Undefined`, with the escapes of document 01.
 -- Assumes nothing.
-use Rattle.std.specs.Prelude.{ℕ, ◌/◌, ◌%◌, ◌≤◌, Bool, true, false, ◌||◌, List, [], ◌∷◌, ◌++◌, ◌==◌, nat_lt, slice_index}
+use Rattle.std.specs.Prelude.{◌≡◌, ℕ, ◌/◌, ◌%◌, ◌≤◌, Bool, true, false, ◌||◌, List, [], ◌∷◌, ◌++◌, ◌==◌, nat_lt, slice_index, Option, Some, None}
+use Rattle.std.specs.Borrow.{Bor}
 use Prim.Native.Char.{code}
 use Rattle.text.specs.Text.{bytes, part}
+use Rattle.text.specs.Xml.{in_text}
+use Rattle.text.specs.declared.Dialect.{Dialect}
 use Rattle.token.specs.declared.Undefined.{Undefined}
 
 -- a number below 256 in lower-case hexadecimal, with no leading zero
@@ -52,6 +55,25 @@ debug s Undefined.RBrace = bytes "RBrace"
 debug s Undefined.Underscore = bytes "Underscore"
 debug s Undefined.Circumflex = bytes "Circumflex"
 debug s (Undefined.Command a e) = bytes "Command(\"" ++ (escape (command_name s a e) ++ bytes "\")")
+
+-- the name of a token's variant
+unfoldable pub variant_name : Undefined → List ℕ
+variant_name Undefined.EOF = bytes "EOF"
+variant_name Undefined.End = bytes "End"
+variant_name Undefined.Right = bytes "Right"
+variant_name Undefined.RBrace = bytes "RBrace"
+variant_name Undefined.Underscore = bytes "Underscore"
+variant_name Undefined.Circumflex = bytes "Circumflex"
+variant_name (Undefined.Command a e) = bytes "Command"
+
+-- the Debug text of an unknown command, escaped once more, in a dialect
+unfoldable pub command_text : Dialect → List ℕ → List ℕ
+command_text d name = in_text d (escape (bytes "Command(\"" ++ (escape (or_nul name) ++ bytes "\")")))
+
+-- a text stands for a byte, or the byte stands as itself
+abbrev pub Stands : List ℕ → ℕ → Option (Bor (List ℕ)) → Type 0
+Stands l b (Some text) = text.now ≡ l
+Stands l b None = l ≡ b ∷ []
 
 -- the places of a command's name lie in a body of n bytes
 abbrev pub Inside : ℕ → Undefined → Type 0

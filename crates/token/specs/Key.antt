@@ -1,11 +1,11 @@
 -- The command table as the search reads it: the name and the token at a place, a name as words with their order, and the rows.
 -- Assumes nothing.
-use Rattle.std.specs.Prelude.{◌≡◌, ℕ, zero, suc, ◌+◌, ◌*◌, ◌/◌, ◌<◌, ◌≤◌, Bool, true, false, List, ◌++◌, length, take, drop, ◌≢◌, nat_lt, slice_index, slice_index_or}
+use Rattle.std.specs.Prelude.{◌≡◌, ℕ, zero, suc, ◌+◌, ◌*◌, ◌/◌, ◌<◌, ◌≤◌, Bool, true, false, List, ◌++◌, length, take, drop, ◌≢◌, nat_lt, slice_index, slice_index_or, Option, Some, None}
 use mathlib.Core.List as L
 use Prim.Native.Char.{code}
 use Prim.Native.String.{String, [], ◌∷◌}
-use Rattle.token.specs.declared.Ordering.{Ordering}
-use Rattle.token.specs.declared.Ordering.TheVariants.{Less, Equal, Greater}
+use Rattle.std.specs.declared.cmp.Ordering.{Ordering}
+use Rattle.std.specs.declared.cmp.Ordering.TheVariants.{Less, Equal, Greater}
 use Rattle.token.specs.declared.Token.{Token}
 use Rattle.token.specs.Spell.{Arm, ◌=>◌}
 use Rattle.token.specs.Table.{size, entries}
@@ -58,7 +58,7 @@ key i = words (name_at i)
 unfoldable pub row : Arm ℕ → List ℕ
 row e = words (codes e.name) ++ L.◌∷◌ e.gives L.[]
 
--- what the lent table holds: row behind row
+-- what the table holds: row behind row
 abbrev pub flat : List (Arm ℕ) → List ℕ
 flat L.[] = L.[]
 flat (L.◌∷◌ e es) = row e ++ flat es
@@ -94,7 +94,7 @@ pub record Has (p r i : ℕ) : Type 0 where
   pub from : r ≤ p
   pub to : p < start (i + 1)
 
--- the row of the name with the words k begins at r, or r is past the table where no name has them
-pub record Place (k : List ℕ) (r : ℕ) : Type 0 where
-  pub found : r < length rows → (i : ℕ) × Row r i × (key i ≡ k)
-  pub none : length rows ≤ r → (i : ℕ) → i < size → key i ≢ k
+-- the row of the name with the words k begins at the place that is found, or no name has them
+abbrev pub Place : List ℕ → Option ℕ → Type 0
+Place k (Some r) = (i : ℕ) × Row r i × (key i ≡ k)
+Place k None = (i : ℕ) → i < size → key i ≢ k

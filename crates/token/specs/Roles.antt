@@ -1,7 +1,8 @@
 -- What the parser asks of a token: each question is answered here for every token, once.
 -- Assumes nothing.
-use Rattle.std.specs.Prelude.{ℕ, Bool, true, false, ◌==◌}
-use Rattle.std.proofs.Math.Option.{Option, none, some}
+use Rattle.std.specs.Prelude.{ℕ, Bool, true, false, ◌==◌, Option, Some, None}
+use mathlib.Core.Option as maybe
+use mathlib.Core.Option.{none, some}
 use Prim.Native.Char.{code}
 use Rattle.token.specs.declared.Token.{Token}
 use Rattle.token.specs.declared.Token.TheVariants.{EOF, Begin, End, Ampersand, NewLine, Left, Right, Middle, Paren, LBrace, RBrace, Frac, Underscore, Circumflex, Binom, Overset, Underset, Overbrace, Underbrace, Sqrt, Integral, Lim, Space, Style, Big, Over, Under, Operator, BigOp, Letter, Number, Function, OperatorName, Slashed, Text, Command}
@@ -75,45 +76,45 @@ token_is t m = mark_number (mark_of t) == mark_number m
 
 -- the text of a parenthesis
 unfoldable pub paren_of : Token → Option ℕ
-paren_of EOF = none
-paren_of Begin = none
-paren_of End = none
-paren_of Ampersand = none
-paren_of NewLine = none
-paren_of Left = none
-paren_of Right = none
-paren_of Middle = none
-paren_of (Paren t) = some t
-paren_of LBrace = none
-paren_of RBrace = none
-paren_of Frac = none
-paren_of Underscore = none
-paren_of Circumflex = none
-paren_of (Binom b) = none
-paren_of Overset = none
-paren_of Underset = none
-paren_of (Overbrace c) = none
-paren_of (Underbrace c) = none
-paren_of Sqrt = none
-paren_of (Integral c) = none
-paren_of (Lim t) = none
-paren_of (Space w) = none
-paren_of (Style v) = none
-paren_of (Big t) = none
-paren_of (Over c a) = none
-paren_of (Under c a) = none
-paren_of (Operator c) = none
-paren_of (BigOp c) = none
-paren_of (Letter c v) = none
-paren_of (Number a e) = none
-paren_of (Function t) = none
-paren_of OperatorName = none
-paren_of Slashed = none
-paren_of Text = none
-paren_of (Command a e) = none
+paren_of EOF = None
+paren_of Begin = None
+paren_of End = None
+paren_of Ampersand = None
+paren_of NewLine = None
+paren_of Left = None
+paren_of Right = None
+paren_of Middle = None
+paren_of (Paren t) = Some t
+paren_of LBrace = None
+paren_of RBrace = None
+paren_of Frac = None
+paren_of Underscore = None
+paren_of Circumflex = None
+paren_of (Binom b) = None
+paren_of Overset = None
+paren_of Underset = None
+paren_of (Overbrace c) = None
+paren_of (Underbrace c) = None
+paren_of Sqrt = None
+paren_of (Integral c) = None
+paren_of (Lim t) = None
+paren_of (Space w) = None
+paren_of (Style v) = None
+paren_of (Big t) = None
+paren_of (Over c a) = None
+paren_of (Under c a) = None
+paren_of (Operator c) = None
+paren_of (BigOp c) = None
+paren_of (Letter c v) = None
+paren_of (Number a e) = None
+paren_of (Function t) = None
+paren_of OperatorName = None
+paren_of Slashed = None
+paren_of Text = None
+paren_of (Command a e) = None
 
 -- the character of a letter
-unfoldable pub letter_of : Token → Option ℕ
+unfoldable pub letter_of : Token → maybe.Option ℕ
 letter_of EOF = none
 letter_of Begin = none
 letter_of End = none
@@ -154,4 +155,4 @@ letter_of (Command a e) = none
 -- the text of a fence: a parenthesis, or none for a period
 unfoldable pub fence_of : Token → Option ℕ
 fence_of t =
-    elim (paren_of t) [ some n ↦ some n | none ↦ elim (token_is t Mark.Period) [ true ↦ some (text "") | false ↦ none ] ]
+    elim (paren_of t) [ Some n ↦ Some n | None ↦ elim (token_is t Mark.Period) [ true ↦ Some (text "") | false ↦ None ] ]

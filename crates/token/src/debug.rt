@@ -1,158 +1,166 @@
 // The Debug text of the tokens that become `Undefined`, escaped once more, as the error text has it, in a dialect.
-ghost use Rattle.std.specs.Prelude.{◌≡◌, ◌≤◌, length};
-ghost use Rattle.text.specs.Text.{part};
-ghost use Rattle.text.specs.Put.{Room, Puts, unpacked};
+ghost use Rattle.std.specs.Prelude.{◌≡◌, ◌+◌, ◌*◌, ◌≤◌, length};
+ghost use Rattle.text.specs.Put.{Room, Puts};
 ghost use Rattle.text.specs.Xml.{in_text};
-ghost use Rattle.token.specs.Debug.{escapes, escape_by, escape, command_name, debug, Inside};
+ghost use Rattle.token.specs.Debug.{escapes, escape_by, escape, or_nul, variant_name, command_text, debug, Inside, Stands};
 
 use crate::Undefined;
 use text::Dialect;
-use text::put::{put, put_packed};
+use text::put::Output;
 use text::xml::reference;
 
-// What a byte of a name is after both escapes, packed: it never has more than seven bytes.
+// What a byte of a name is after both escapes, where it does not stand as itself.
 #[tactic(auto, unfolding(text::specs::Examples::text_opens, crate::specs::Debug::digit, crate::specs::Debug::hexadecimal, crate::specs::Debug::control, crate::specs::Debug::escapes, crate::specs::Debug::escape_by, crate::specs::Debug::escape))]
-fn escaped_twice(b: u8) -> u64
-    ensures { unpacked result ≡ escape (escape_by escapes b) }
+fn escaped_twice(b: u8) -> Option<&'static [u8]>
+    ensures { Stands (escape (escape_by escapes b)) b result }
 {
     match b {
-        0 => 0x0300_0000_0030_5c5c, // \\0
-        1 => 0x0600_7d31_7b75_5c5c, // \\u{1}
-        2 => 0x0600_7d32_7b75_5c5c, // \\u{2}
-        3 => 0x0600_7d33_7b75_5c5c, // \\u{3}
-        4 => 0x0600_7d34_7b75_5c5c, // \\u{4}
-        5 => 0x0600_7d35_7b75_5c5c, // \\u{5}
-        6 => 0x0600_7d36_7b75_5c5c, // \\u{6}
-        7 => 0x0600_7d37_7b75_5c5c, // \\u{7}
-        8 => 0x0600_7d38_7b75_5c5c, // \\u{8}
-        9 => 0x0300_0000_0074_5c5c, // \\t
-        10 => 0x0300_0000_006e_5c5c, // \\n
-        11 => 0x0600_7d62_7b75_5c5c, // \\u{b}
-        12 => 0x0600_7d63_7b75_5c5c, // \\u{c}
-        13 => 0x0300_0000_0072_5c5c, // \\r
-        14 => 0x0600_7d65_7b75_5c5c, // \\u{e}
-        15 => 0x0600_7d66_7b75_5c5c, // \\u{f}
-        16 => 0x077d_3031_7b75_5c5c, // \\u{10}
-        17 => 0x077d_3131_7b75_5c5c, // \\u{11}
-        18 => 0x077d_3231_7b75_5c5c, // \\u{12}
-        19 => 0x077d_3331_7b75_5c5c, // \\u{13}
-        20 => 0x077d_3431_7b75_5c5c, // \\u{14}
-        21 => 0x077d_3531_7b75_5c5c, // \\u{15}
-        22 => 0x077d_3631_7b75_5c5c, // \\u{16}
-        23 => 0x077d_3731_7b75_5c5c, // \\u{17}
-        24 => 0x077d_3831_7b75_5c5c, // \\u{18}
-        25 => 0x077d_3931_7b75_5c5c, // \\u{19}
-        26 => 0x077d_6131_7b75_5c5c, // \\u{1a}
-        27 => 0x077d_6231_7b75_5c5c, // \\u{1b}
-        28 => 0x077d_6331_7b75_5c5c, // \\u{1c}
-        29 => 0x077d_6431_7b75_5c5c, // \\u{1d}
-        30 => 0x077d_6531_7b75_5c5c, // \\u{1e}
-        31 => 0x077d_6631_7b75_5c5c, // \\u{1f}
-        34 => 0x0400_0000_225c_5c5c, // \\\"
-        92 => 0x0400_0000_5c5c_5c5c, // \\\\
-        127 => 0x077d_6637_7b75_5c5c, // \\u{7f}
-        _ => 0x0100_0000_0000_0000 + wide(b),
+        0 => Some(b"\\\\0"),
+        1 => Some(b"\\\\u{1}"),
+        2 => Some(b"\\\\u{2}"),
+        3 => Some(b"\\\\u{3}"),
+        4 => Some(b"\\\\u{4}"),
+        5 => Some(b"\\\\u{5}"),
+        6 => Some(b"\\\\u{6}"),
+        7 => Some(b"\\\\u{7}"),
+        8 => Some(b"\\\\u{8}"),
+        9 => Some(b"\\\\t"),
+        10 => Some(b"\\\\n"),
+        11 => Some(b"\\\\u{b}"),
+        12 => Some(b"\\\\u{c}"),
+        13 => Some(b"\\\\r"),
+        14 => Some(b"\\\\u{e}"),
+        15 => Some(b"\\\\u{f}"),
+        16 => Some(b"\\\\u{10}"),
+        17 => Some(b"\\\\u{11}"),
+        18 => Some(b"\\\\u{12}"),
+        19 => Some(b"\\\\u{13}"),
+        20 => Some(b"\\\\u{14}"),
+        21 => Some(b"\\\\u{15}"),
+        22 => Some(b"\\\\u{16}"),
+        23 => Some(b"\\\\u{17}"),
+        24 => Some(b"\\\\u{18}"),
+        25 => Some(b"\\\\u{19}"),
+        26 => Some(b"\\\\u{1a}"),
+        27 => Some(b"\\\\u{1b}"),
+        28 => Some(b"\\\\u{1c}"),
+        29 => Some(b"\\\\u{1d}"),
+        30 => Some(b"\\\\u{1e}"),
+        31 => Some(b"\\\\u{1f}"),
+        34 => Some(b"\\\\\\\""),
+        92 => Some(b"\\\\\\\\"),
+        127 => Some(b"\\\\u{7f}"),
+        _ => None,
     }
 }
 
-// A byte as a number of eight bytes.
-fn wide(b: u8) -> u64
-    ensures { result ≡ b }
-{
-    b as u64
-}
-
-// What a byte of a name is in a dialect, packed: no escape has a byte that XML reads as markup.
-fn escaped_in(dialect: Dialect, b: u8) -> u64
-    ensures { unpacked result ≡ in_text dialect (escape (escape_by escapes b)) }
+// .. in a dialect: no escape has a byte that XML reads as markup.
+fn escaped_in(dialect: Dialect, b: u8) -> Option<&'static [u8]>
+    ensures { Stands (in_text dialect (escape (escape_by escapes b))) b result }
 {
     match dialect {
         Dialect::Old => escaped_twice(b),
         Dialect::Strict => match b {
-            38 | 60 | 62 => reference(dialect, b as u32),
+            38 | 60 | 62 => reference(dialect, u32::from(b)),
             _ => escaped_twice(b),
         },
     }
 }
 
-// Puts the bytes of the body from `a` up to `e`, escaped twice.
-fn put_escaped(
-    dialect: Dialect,
-    s: &[u8],
-    a: usize,
-    e: usize,
-    out: &mut [u8],
-    at: usize,
-    write: bool,
-) -> usize
-    requires { (a ≤ e) × (e ≤ length s.now) × Room write out.old at (length (in_text dialect (escape (escape (part a e s.now))))) }
-    ensures { Puts write out.old out.new at (in_text dialect (escape (escape (part a e s.now)))) result }
+// Puts a byte of a name, escaped twice.
+fn put_byte(dialect: Dialect, b: u8, out: &mut Output)
+    requires { Room out.old (length (in_text dialect (escape (escape_by escapes b)))) }
+    ensures { Puts out.old out.new (in_text dialect (escape (escape_by escapes b))) }
 {
-    let mut place = at;
-    let mut i = a;
-    while i < e {
-        place = put_packed(escaped_in(dialect, s[i]), out, place, write);
-        i += 1;
+    match escaped_in(dialect, b) {
+        Some(text) => out.put(text),
+        None => out.put(&[b]),
     }
-    place
+}
+
+// The length of a byte of a name, escaped twice.
+fn byte_len(dialect: Dialect, b: u8) -> usize
+    ensures { (result ≡ length (in_text dialect (escape (escape_by escapes b)))) × (result ≤ 7) }
+{
+    match escaped_in(dialect, b) {
+        Some(text) => text.len(),
+        None => 1,
+    }
 }
 
 // Puts the name of a command, escaped twice: at the end of the body its name is a NUL.
-fn put_name(
-    dialect: Dialect,
-    s: &[u8],
-    a: usize,
-    e: usize,
-    out: &mut [u8],
-    at: usize,
-    write: bool,
-) -> usize
-    requires { (a ≤ e) × (e ≤ length s.now) × Room write out.old at (length (in_text dialect (escape (escape (command_name s.now a e))))) }
-    ensures { Puts write out.old out.new at (in_text dialect (escape (escape (command_name s.now a e)))) result }
+fn put_name(dialect: Dialect, name: &[u8], out: &mut Output)
+    requires { Room out.old (length (in_text dialect (escape (escape (or_nul name.now))))) }
+    ensures { Puts out.old out.new (in_text dialect (escape (escape (or_nul name.now)))) }
 {
-    if a == e {
-        return put(b"\\\\0", out, at, write);
+    if name.is_empty() {
+        return put_byte(dialect, 0, out);
     }
-    put_escaped(dialect, s, a, e, out, at, write)
+    for b in name {
+        put_byte(dialect, *b, out);
+    }
+}
+
+// The length of the name of a command, escaped twice.
+fn name_len(dialect: Dialect, name: &[u8]) -> usize
+    requires { length name.now ≤ 4096 }
+    ensures { (result ≡ length (in_text dialect (escape (escape (or_nul name.now))))) × (result ≤ 28672) }
+{
+    if name.is_empty() {
+        return byte_len(dialect, 0);
+    }
+    let mut n: usize = 0;
+    for b in name {
+        n += byte_len(dialect, *b);
+    }
+    n
 }
 
 // Puts the Debug text of an unknown command, escaped once more.
-fn put_command(
-    dialect: Dialect,
-    s: &[u8],
-    a: usize,
-    e: usize,
-    out: &mut [u8],
-    at: usize,
-    write: bool,
-) -> usize
-    requires { (a ≤ e) × (e ≤ length s.now) × Room write out.old at (length (in_text dialect (escape (debug s.now (Undefined.Command a e))))) }
-    ensures { Puts write out.old out.new at (in_text dialect (escape (debug s.now (Undefined.Command a e)))) result }
+fn put_command(dialect: Dialect, name: &[u8], out: &mut Output)
+    requires { Room out.old (length (command_text dialect name.now)) }
+    ensures { Puts out.old out.new (command_text dialect name.now) }
 {
-    let name = put(b"Command(\\\"", out, at, write);
-    let end = put_name(dialect, s, a, e, out, name, write);
-    put(b"\\\")", out, end, write)
+    out.put(b"Command(\\\"");
+    put_name(dialect, name, out);
+    out.put(b"\\\")");
+}
+
+impl Undefined {
+    // The name of a token's variant, which Debug writes.
+    fn name(self) -> &'static [u8]
+        ensures { result.now ≡ variant_name self }
+    {
+        match self {
+            Undefined::EOF => b"EOF",
+            Undefined::End => b"End",
+            Undefined::Right => b"Right",
+            Undefined::RBrace => b"RBrace",
+            Undefined::Underscore => b"Underscore",
+            Undefined::Circumflex => b"Circumflex",
+            Undefined::Command(_, _) => b"Command",
+        }
+    }
 }
 
 // Puts the Debug text of a token, escaped once more.
-pub fn put_debug(
-    dialect: Dialect,
-    s: &[u8],
-    u: Undefined,
-    out: &mut [u8],
-    at: usize,
-    write: bool,
-) -> usize
-    requires { Inside (length s.now) u × Room write out.old at (length (in_text dialect (escape (debug s.now u)))) }
-    ensures { Puts write out.old out.new at (in_text dialect (escape (debug s.now u))) result }
+pub fn put_debug(dialect: Dialect, s: &[u8], u: Undefined, out: &mut Output)
+    requires { Inside (length s.now) u × Room out.old (length (in_text dialect (escape (debug s.now u)))) }
+    ensures { Puts out.old out.new (in_text dialect (escape (debug s.now u))) }
 {
     match u {
-        Undefined::EOF => put(b"EOF", out, at, write),
-        Undefined::End => put(b"End", out, at, write),
-        Undefined::Right => put(b"Right", out, at, write),
-        Undefined::RBrace => put(b"RBrace", out, at, write),
-        Undefined::Underscore => put(b"Underscore", out, at, write),
-        Undefined::Circumflex => put(b"Circumflex", out, at, write),
-        Undefined::Command(a, e) => put_command(dialect, s, a, e, out, at, write),
+        Undefined::Command(a, e) => put_command(dialect, &s[a..e], out),
+        _ => out.put(u.name()),
+    }
+}
+
+// The length of the Debug text of a token, escaped once more.
+pub fn debug_len(dialect: Dialect, s: &[u8], u: Undefined) -> usize
+    requires { Inside (length s.now) u × (length s.now ≤ 4096) }
+    ensures { result ≡ length (in_text dialect (escape (debug s.now u))) }
+{
+    match u {
+        Undefined::Command(a, e) => 13 + name_len(dialect, &s[a..e]),
+        _ => u.name().len(),
     }
 }

@@ -12,15 +12,9 @@ ghost use Rattle.token.specs.Command.{from_command, operator_in, acts_on_a_digit
 ghost use Rattle.token.specs.Key.{word_of, words, key, rows, cmp, Row, Has, Place};
 
 use attribute::{Accent, DisplayStyle, Variant};
-use table::{LENGTH, MARK, Table, token_of};
+use std::cmp::Ordering;
+use table::{LENGTH, MARK, token_of, word_at};
 use text::Dialect;
-
-// The Rust's `Option<DisplayStyle>`.
-#[derive(Clone, Copy)]
-pub enum Binomial {
-    Plain,
-    Styled(DisplayStyle),
-}
 
 // The Rust's `Token`, but for `Illegal`, which no lexer makes.
 #[derive(Clone, Copy)]
@@ -39,7 +33,7 @@ pub enum Token {
     Frac,
     Underscore,
     Circumflex,
-    Binom(Binomial),
+    Binom(Option<DisplayStyle>),
     Overset,
     Underset,
     Overbrace(u32),
@@ -76,7 +70,7 @@ pub enum Undefined {
 }
 
 // The tokens that the parser asks for by name.
-#[derive(Clone, Copy)]
+#[derive(Clone, Copy, PartialEq, Eq)]
 pub enum Mark {
     EOF,
     LBracket,
@@ -91,145 +85,125 @@ pub enum Mark {
     Other,
 }
 
-// How a name of the table compares with another: the Rust's `core::cmp::Ordering`.
-#[derive(Clone, Copy)]
-pub enum Ordering {
-    Less,
-    Equal,
-    Greater,
-}
-
 impl Token {
     // A digit directly after such a token is a number of one digit.
+    #[tactic(auto, unfolding(crate::specs::Command::acts_on_a_digit))]
     pub fn acts_on_a_digit(self) -> bool
         ensures { result ≡ acts_on_a_digit self }
     {
-        match self {
-            Token::Sqrt | Token::Frac | Token::Binom(_) | Token::Style(_) => true,
-            _ => false,
-        }
+        matches!(
+            self,
+            Token::Sqrt | Token::Frac | Token::Binom(_) | Token::Style(_)
+        )
     }
 }
 
-// The byte k of s[a..e], and 0 past its end.
-fn byte_of(s: &[u8], a: usize, e: usize, k: usize) -> u32
-    requires { (a ≤ e) × (e ≤ length s.now) × (a + k < 2 ^ 64) }
-    ensures { (result ≡ slice_index (part a e s.now) k) × (result < 256) }
+// The byte k of a name, and 0 past its end.
+fn byte_of(name: &[u8], k: usize) -> u32
+    ensures { (result ≡ slice_index name.now k) × (result < 256) }
 {
-    let at = a + k;
-    if at < e { s[at] as u32 } else { 0 }
+    if k < name.len() {
+        u32::from(name[k])
+    } else {
+        0
+    }
 }
 
-// The four bytes of s[a..e] from `from` on as a number, with zeros past its end.
-fn pack(s: &[u8], a: usize, e: usize, from: usize) -> u32
-    requires { (a + from ≤ e) × (e ≤ length s.now) }
-    ensures { result ≡ word_of (drop from (part a e s.now)) }
+// The four bytes of a name from a place on as a number, with zeros past its end.
+fn pack(name: &[u8], from: usize) -> u32
+    requires { from ≤ length name.now }
+    ensures { result ≡ word_of (drop from name.now) }
 {
     let mut word: u32 = 0;
-    let mut k: usize = 0;
-    while k < 4 {
-        word = word * 256 + byte_of(s, a, e, from + k);
-        k += 1;
+    for k in 0..4 {
+        word = word * 256 + byte_of(name, from + k);
     }
     word
 }
 
-// The word k of s[a..e]. Each step of the search asks for the first, so it is packed once.
-fn word(first: u32, s: &[u8], a: usize, e: usize, k: usize) -> u32
-    requires { (a + 4 * k ≤ e) × (e ≤ length s.now) × (first ≡ word_of (part a e s.now)) }
-    ensures { result ≡ word_of (drop (4 * k) (part a e s.now)) }
+// The word k of a name. Each step of the search asks for the first, so it is packed once.
+fn word(first: u32, name: &[u8], k: usize) -> u32
+    requires { (4 * k ≤ length name.now) × (first ≡ word_of name.now) }
+    ensures { result ≡ word_of (drop (4 * k) name.now) }
 {
-    if k == 0 {
-        return first;
-    }
-    pack(s, a, e, 4 * k)
+    if k == 0 { first } else { pack(name, 4 * k) }
 }
 
-// How the name of the row that begins at a place compares with s[a..e]. A name ends where its code stands.
-fn compare(at: usize, first: u32, s: &[u8], a: usize, e: usize, table: &Table) -> Ordering
-    requires { ((i : ℕ) × Row at i) × (a ≤ e) × (e ≤ length s.now) × (first ≡ word_of (part a e s.now)) × (table.now ≡ rows) }
-    ensures { (i : ℕ) → Row at i → result ≡ cmp (key i) (words (part a e s.now)) }
+// How the name of the row that begins at a place compares with a name. A name ends where its code stands.
+fn compare(at: usize, first: u32, name: &[u8]) -> Ordering
+    requires { ((i : ℕ) × Row at i) × (first ≡ word_of name.now) }
+    ensures { (i : ℕ) → Row at i → result ≡ cmp (key i) (words name.now) }
 {
-    let n = (e - a + 3) / 4;
-    let mut k: usize = 0;
-    while k < n {
-        let x = table[at + k];
+    let n = (name.len() + 3) / 4;
+    for k in 0..n {
+        let x = word_at(at + k);
         if MARK <= x {
             return Ordering::Less;
         }
-        let y = word(first, s, a, e, k);
+        let y = word(first, name, k);
         if x < y {
             return Ordering::Less;
         }
         if y < x {
             return Ordering::Greater;
         }
-        k += 1;
     }
-    if MARK <= table[at + n] {
-        return Ordering::Equal;
+    if MARK <= word_at(at + n) {
+        Ordering::Equal
+    } else {
+        Ordering::Greater
     }
-    Ordering::Greater
 }
 
 // Where the row begins that has the word at p: behind the code before it.
-fn row_of(p: usize, table: &Table) -> usize
-    requires { (p < length rows) × (table.now ≡ rows) }
+fn row_of(p: usize) -> usize
+    requires { p < length rows }
     ensures { (i : ℕ) × Has p result i }
 {
-    let mut at = p;
-    while 0 < at {
-        if MARK <= table[at - 1] {
-            return at;
+    for at in (0..p).rev() {
+        if MARK <= word_at(at) {
+            return at + 1;
         }
-        at -= 1;
     }
-    at
+    0
 }
 
-// Where the row of the name s[a..e] begins, found by halves, or the table's length where no row has it.
-fn search(s: &[u8], a: usize, e: usize, table: &Table) -> usize
-    requires { (a ≤ e) × (e ≤ length s.now) × (table.now ≡ rows) }
-    ensures { Place (words (part a e s.now)) result }
+// Where the row of a name begins, found by halves, or that no row has it.
+fn search(name: &[u8]) -> Option<usize>
+    ensures { Place (words name.now) result }
 {
-    let first = pack(s, a, e, 0);
+    let first = pack(name, 0);
     let mut lo: usize = 0;
     let mut hi: usize = LENGTH;
     while lo < hi {
         let mid = lo + (hi - lo) / 2;
-        let at = row_of(mid, table);
-        match compare(at, first, s, a, e, table) {
+        let at = row_of(mid);
+        match compare(at, first, name) {
             Ordering::Less => {
                 lo = mid + 1;
             }
             Ordering::Equal => {
-                return at;
+                return Some(at);
             }
             Ordering::Greater => {
                 hi = at;
             }
         }
     }
-    LENGTH
+    None
 }
 
-// The token of the command whose name is s[a..e]: the table has no name that is empty or ends in a zero, and its words determine any
-// other.
-pub fn from_command(s: &[u8], a: usize, e: usize, table: &Table) -> Token
-    requires { (a ≤ e) × (e ≤ length s.now) × (table.now ≡ rows) }
-    ensures { result ≡ from_command (part a e s.now) (Token.Command a e) }
+// The token of the command with a name, or the one given for a name that is unknown: the table has no name that is empty or ends in a
+// zero, and its words determine any other.
+pub fn from_command(name: &[u8], unknown: Token) -> Token
+    ensures { result ≡ from_command name.now unknown }
 {
-    if a == e {
-        return Token::Command(a, e);
+    if name.is_empty() || name[name.len() - 1] == 0 {
+        return unknown;
     }
-    if s[e - 1] == 0 {
-        return Token::Command(a, e);
-    }
-    let at = search(s, a, e, table);
-    if at < LENGTH {
-        token_of(table[at + (e - a + 3) / 4])
-    } else {
-        Token::Command(a, e)
+    match search(name) {
+        Some(at) => token_of(word_at(at + (name.len() + 3) / 4)),
+        None => unknown,
     }
 }
 

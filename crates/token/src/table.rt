@@ -1,10 +1,10 @@
 // The command table, sorted by name: a row has the words of a name, four bytes each, big-endian, with zeros behind its end, and the code
 // of its token, which alone has the highest bit. Written by tools/table.py from the Rust's token.rs.
-ghost use Rattle.std.specs.Prelude.{◌≡◌};
+ghost use Rattle.std.specs.Prelude.{◌≡◌, ◌<◌, length, slice_index};
 ghost use Rattle.token.specs.Code.{token_of};
 ghost use Rattle.token.specs.Key.{rows};
 
-use super::{Binomial, Token};
+use super::Token;
 use attribute::{Accent, DisplayStyle, Variant};
 
 // The number of its words.
@@ -13,10 +13,8 @@ pub const LENGTH: usize = 1409;
 // From this number on a word is a code.
 pub const MARK: u32 = 0x80000000;
 
-pub type Table = [u32; 1409];
-
 // Each row begins with the comment that has its name.
-pub const TABLE: Table = [
+static TABLE: [u32; LENGTH] = [
     // " "
     0x20000000, 0x92000004,
     // "!"
@@ -967,11 +965,12 @@ pub const TABLE: Table = [
     0x7d000000, 0x8600000a,
 ];
 
-// The table, for a caller to lend. It is laid down anew by each call: an operation makes one.
-pub fn table() -> Table
-    ensures { result ≡ rows }
+// The word of the table at a place.
+pub fn word_at(i: usize) -> u32
+    requires { i < length rows }
+    ensures { result ≡ slice_index rows i }
 {
-    TABLE
+    TABLE[i]
 }
 
 // The token that a code stands for: seven bits behind the mark are its form, the rest is what the form holds.
@@ -988,9 +987,9 @@ pub fn token_of(code: u32) -> Token
         5 => Token::Middle,
         6 => Token::Paren(n),
         7 => Token::Frac,
-        8 => Token::Binom(Binomial::Plain),
-        9 => Token::Binom(Binomial::Styled(DisplayStyle::Block)),
-        10 => Token::Binom(Binomial::Styled(DisplayStyle::Inline)),
+        8 => Token::Binom(None),
+        9 => Token::Binom(Some(DisplayStyle::Block)),
+        10 => Token::Binom(Some(DisplayStyle::Inline)),
         11 => Token::Overset,
         12 => Token::Underset,
         13 => Token::Overbrace(n),

@@ -2,94 +2,117 @@
 ghost use Rattle.std.specs.Prelude.{◌≤◌, length};
 
 use crate::packed::decimal;
+use attribute::DisplayStyle;
+use latex2mathml::Manner;
+use text::Dialect;
 
-// What a line's head says: what is asked and in which dialect, the lengths lent, and the number, the paragraphs and those left as typed that are expected.
+// What is asked of a text.
 #[derive(Clone, Copy)]
-pub struct Case {
-    pub kind: u8,
-    pub scope: bool,
-    pub strict: bool,
-    pub store: usize,
-    pub work: usize,
-    pub output: usize,
+pub enum Question {
+    Body(DisplayStyle),
+    Document,
+    Page,
+}
+
+impl Question {
+    // Its letter in the list.
+    pub fn letter(self) -> char {
+        match self {
+            Question::Body(DisplayStyle::Block) => 'B',
+            Question::Body(DisplayStyle::Inline) => 'I',
+            Question::Document => 'D',
+            Question::Page => 'P',
+        }
+    }
+}
+
+// What a case asks: one question, or a body in both displays.
+#[derive(Clone, Copy)]
+pub enum Asked {
+    One(Question),
+    BothDisplays,
+}
+
+impl Asked {
+    // What a letter asks.
+    fn of(letter: u8) -> Option<Asked> {
+        match letter {
+            b'M' => Some(Asked::BothDisplays),
+            b'B' => Some(Asked::One(Question::Body(DisplayStyle::Block))),
+            b'I' => Some(Asked::One(Question::Body(DisplayStyle::Inline))),
+            b'D' => Some(Asked::One(Question::Document)),
+            b'P' => Some(Asked::One(Question::Page)),
+            _ => None,
+        }
+    }
+}
+
+// An answer in the numbers of the list, which compares them as a whole: the number of the refusal, 0 for none, the length, and the counts of a page.
+#[derive(Clone, Copy, Default, PartialEq)]
+pub struct Numbers {
     pub number: usize,
+    pub length: usize,
     pub paragraphs: usize,
     pub left: usize,
 }
 
-// The head of a line and the place behind it.
+// What a line's head says: what is asked and how it is printed, the lengths lent, and the numbers that are expected, but for the length.
 #[derive(Clone, Copy)]
-pub struct Head {
-    pub case: Case,
-    pub next: usize,
+pub struct Case {
+    pub asked: Option<Asked>,
+    pub scope: bool,
+    pub manner: Manner,
+    pub store: usize,
+    pub work: usize,
+    pub output: usize,
+    pub expected: Numbers,
 }
 
-impl Case {
+impl Default for Case {
     // The old dialect is asked and enough is lent where the head does not say otherwise, and the answer is an acceptance.
-    fn new() -> Case {
+    fn default() -> Case {
         Case {
-            kind: 0,
+            asked: None,
             scope: false,
-            strict: false,
+            manner: Manner {
+                dialect: Dialect::Old,
+            },
             store: 196608,
             work: 65536,
             output: 131072,
-            number: 0,
-            paragraphs: 0,
-            left: 0,
+            expected: Numbers::default(),
         }
-    }
-
-    // The case with what one letter of the head and the number behind it say.
-    fn with(mut self, letter: u8, n: usize) -> Case {
-        match letter {
-            b'!' => {
-                self.scope = true;
-            }
-            b'S' => {
-                self.strict = true;
-            }
-            b's' => {
-                self.store = n;
-            }
-            b'w' => {
-                self.work = n;
-            }
-            b'o' => {
-                self.output = n;
-            }
-            b'n' => {
-                self.number = n;
-            }
-            b'p' => {
-                self.paragraphs = n;
-            }
-            b'l' => {
-                self.left = n;
-            }
-            _ => {
-                self.kind = letter;
-            }
-        }
-        self
     }
 }
 
-// Reads the head of a line, up to its first tab.
-pub fn read_head(line: &[u8]) -> Head
-    ensures { result.next ≤ length line.now }
+impl Case {
+    // Takes in what one letter of the head and the number behind it say; the last letter of what is asked counts.
+    fn take(&mut self, letter: u8, n: usize) {
+        match letter {
+            b'!' => self.scope = true,
+            b'S' => self.manner.dialect = Dialect::Strict,
+            b's' => self.store = n,
+            b'w' => self.work = n,
+            b'o' => self.output = n,
+            b'n' => self.expected.number = n,
+            b'p' => self.expected.paragraphs = n,
+            b'l' => self.expected.left = n,
+            _ => self.asked = Asked::of(letter),
+        }
+    }
+}
+
+// Takes the head of a line, up to its first tab.
+pub fn read_head(line: &mut &[u8]) -> Case
+    ensures { length line.new.now ≤ length line.old.now }
 {
-    let mut case = Case::new();
-    let mut i: usize = 0;
-    while i < line.len() {
-        let letter = line[i];
-        i += 1;
+    let mut case = Case::default();
+    while let Some(&letter) = line.split_off_first() {
         if letter == b'\t' {
             break;
         }
-        let n = decimal(line, i);
-        case = case.with(letter, n.value);
-        i = n.next;
+        let n = decimal(line);
+        case.take(letter, n);
     }
-    Head { case, next: i }
+    case
 }

@@ -2,124 +2,75 @@
 ghost use Rattle.std.specs.Prelude.{true, ◌≡◌, ◌≤◌, length, take};
 ghost use Rattle.vectors.specs.Judged.{Agrees, Judged};
 
-use crate::ask::{Got, ask_body, ask_document, ask_page};
-use crate::case::Case;
-use crate::packed::{put_bytes, put_opening, put_piece, unpack};
+use crate::ask::ask;
+use crate::case::{Case, Numbers, Question};
+use crate::packed::Filled;
 
-// Whether an answer is the stored one, or the number that came instead.
-#[derive(Clone, Copy)]
-pub enum Verdict {
-    Same,
-    Differs(usize),
-}
+// Whether an answer is the stored one; where it is not, the error is the number that came.
+pub type Verdict = Result<(), usize>;
 
 // Whether the numbers of an answer are the stored ones.
-fn agrees(case: Case, got: Got, length: usize) -> bool
+fn agrees(case: Case, got: Numbers, length: usize) -> bool
     ensures { result ≡ true → Agrees case got length }
 {
-    if got.number != case.number {
-        return false;
-    }
-    if got.length != length {
-        return false;
-    }
-    if got.paragraphs != case.paragraphs {
-        return false;
-    }
-    got.left == case.left
+    let expected = Numbers {
+        length,
+        ..case.expected
+    };
+    got == expected
 }
 
 // Whether two buffers begin with the same n bytes.
 fn alike(a: &[u8], b: &[u8], n: usize) -> bool
     ensures { result ≡ true → take n a.now ≡ take n b.now }
 {
-    if a.len() < n {
-        return false;
-    }
-    if b.len() < n {
-        return false;
-    }
-    &a[..n] == &b[..n]
+    n <= a.len() && n <= b.len() && &a[..n] == &b[..n]
 }
 
 // Judges an answer by its numbers and by the first bytes of the output, up to an end behind its length.
-fn judge(case: Case, got: Got, length: usize, out: &[u8], want: &[u8], end: usize) -> Verdict
+fn judge(case: Case, got: Numbers, length: usize, out: &[u8], want: &[u8], end: usize) -> Verdict
     ensures { Judged case got length out.now want.now end result }
 {
-    if !agrees(case, got, length) {
-        return Verdict::Differs(got.number);
+    if agrees(case, got, length) && alike(out, want, end) {
+        Ok(())
+    } else {
+        Err(got.number)
     }
-    if !alike(out, want, end) {
-        return Verdict::Differs(got.number);
-    }
-    Verdict::Same
 }
 
-// Puts what the output is to begin with for a body: the stored text in its wrapper, or nothing for a refusal.
-fn want_body(case: Case, line: &[u8], at: usize, block: bool, want: &mut [u8]) -> usize
-    requires { at ≤ length line.now }
-    ensures { result ≤ length want.new }
-{
-    if case.number != 0 {
-        return 0;
+// Puts what the output is to begin with: of a body the stored text in its wrapper, or nothing for a refusal.
+fn put_wanted(case: Case, question: Question, line: &mut &[u8], wanted: &mut Filled) {
+    match question {
+        Question::Body(display) if case.expected.number == 0 => {
+            wanted.put_opening(display);
+            wanted.unpack(line);
+            wanted.put_piece(b"</math>");
+        }
+        Question::Body(_) => {}
+        Question::Document | Question::Page => wanted.unpack(line),
     }
-    let opened = put_opening(block, want, 0);
-    let markup = unpack(line, at, want, opened);
-    let end = markup.end;
-    put_piece(b"</math>", want, end)
 }
 
-// Compares the translation of a body in one display. Behind the output 64 bytes are looked at, which stay the byte 85.
-pub fn compare_body(case: Case, text: &[u8], line: &[u8], at: usize, block: bool) -> Verdict
-    requires { at ≤ length line.now }
-{
+// Compares the answer to a question. Behind what is written 64 bytes are looked at, which stay the byte 85 that the buffers begin with.
+// The text behind a document's output is what the work buffer is to begin with; what a page's holds afterwards is free.
+pub fn compare(case: Case, question: Question, text: &[u8], mut line: &[u8]) -> Verdict {
     let mut store = [0u8; 196608];
-    let mut want = [0u8; 131072];
-    let mut out = [0u8; 131072];
-    let length = want_body(case, line, at, block, &mut want);
-    let end = put_bytes(85, 64, &mut want, length);
-    put_bytes(85, end, &mut out, 0);
-    let got = ask_body(case, text, block, &mut store, &mut out);
-    judge(case, got, length, &out, &want, end)
-}
-
-// Compares the replacement in a document; the text behind the output's is what the work buffer is to begin with.
-pub fn compare_document(case: Case, text: &[u8], line: &[u8], at: usize) -> Verdict
-    requires { at ≤ length line.now }
-{
-    let mut store = [0u8; 196608];
-    let mut want = [0u8; 131072];
-    let mut want_work = [0u8; 65536];
-    let mut out = [0u8; 131072];
-    let mut work = [0u8; 65536];
-    let output = unpack(line, at, &mut want, 0);
-    let next = output.next;
-    let length = output.end;
-    let pass_one = unpack(line, next, &mut want_work, 0);
-    let between = pass_one.end;
-    let end = put_bytes(85, 64, &mut want, length);
-    let work_end = put_bytes(85, 64, &mut want_work, between);
-    put_bytes(85, end, &mut out, 0);
-    put_bytes(85, work_end, &mut work, 0);
-    let got = ask_document(case, text, &mut store, &mut work, &mut out);
-    if !alike(&work, &want_work, work_end) {
-        return Verdict::Differs(got.number);
+    let mut work = [85u8; 65536];
+    let mut want_work = [85u8; 65536];
+    let mut out = [85u8; 131072];
+    let mut want = [85u8; 131072];
+    let mut wanted = Filled::new(&mut want);
+    put_wanted(case, question, &mut line, &mut wanted);
+    let length = wanted.end;
+    let end = length.saturating_add(64).min(want.len());
+    let got = ask(case, question, text, &mut store, &mut work, &mut out);
+    if let Question::Document = question {
+        let mut pass_one = Filled::new(&mut want_work);
+        pass_one.unpack(&mut line);
+        let work_end = pass_one.end.saturating_add(64).min(want_work.len());
+        if !alike(&work, &want_work, work_end) {
+            return Err(got.number);
+        }
     }
-    judge(case, got, length, &out, &want, end)
-}
-
-// Compares a page; what its work buffer holds afterwards is free.
-pub fn compare_page(case: Case, text: &[u8], line: &[u8], at: usize) -> Verdict
-    requires { at ≤ length line.now }
-{
-    let mut store = [0u8; 196608];
-    let mut want = [0u8; 131072];
-    let mut out = [0u8; 131072];
-    let mut work = [0u8; 65536];
-    let output = unpack(line, at, &mut want, 0);
-    let length = output.end;
-    let end = put_bytes(85, 64, &mut want, length);
-    put_bytes(85, end, &mut out, 0);
-    let got = ask_page(case, text, &mut store, &mut work, &mut out);
     judge(case, got, length, &out, &want, end)
 }

@@ -19,19 +19,20 @@ mod case;
 mod compare;
 mod packed;
 
-ghost use Rattle.std.specs.Prelude.{◌≤◌, ◌<◌, IfOk, length, take};
+ghost use Rattle.std.specs.Prelude.{◌≤◌, ◌<◌, IfOk, OnSome, length, take};
 ghost use Rattle.std.specs.Io.KnownBytes.{Consumes, IsAtEnd};
 ghost use Rattle.vectors.specs.Counts.{AtMost, Grows};
 
-use crate::case::{Case, read_head};
-use crate::compare::{Verdict, compare_body, compare_document, compare_page};
-use crate::packed::unpack;
+use crate::case::{Asked, Case, Question, read_head};
+use crate::compare::{Verdict, compare};
+use crate::packed::Filled;
+use attribute::DisplayStyle;
 use input::read_full;
 use std::io;
 use std::io::{Print, Read};
 
 // What was counted: cases, those of them whose answer is from the documents, answers and those of them that differ.
-#[derive(Clone, Copy)]
+#[derive(Clone, Copy, Default)]
 pub struct Tally {
     pub cases: u64,
     pub scope: u64,
@@ -45,95 +46,97 @@ impl Tally {
         requires { AtMost self 2000000 }
         ensures { Grows self result 1 }
     {
-        self.cases = self.cases + 1;
+        self.cases += 1;
         if case.scope {
-            self.scope = self.scope + 1;
+            self.scope += 1;
         }
         self
     }
 
     // One answer more, told if it differs, with the letter of its kind.
-    fn with_answer(mut self, rt: &impl Print, kind: u8, verdict: Verdict) -> Tally
+    fn with_answer(mut self, rt: &impl Print, kind: char, verdict: Verdict) -> Tally
         requires { AtMost self 2000000 }
         ensures { Grows self result 1 }
     {
-        self.answers = self.answers + 1;
-        if let Verdict::Differs(number) = verdict {
+        self.answers += 1;
+        if let Err(number) = verdict {
             tell(rt, self.cases, kind, number);
-            self.differ = self.differ + 1;
+            self.differ += 1;
         }
         self
     }
 }
 
 // Tells an answer that differs by the number of its line, its kind and the number that came; what cannot be written is still counted.
-fn tell(rt: &impl Print, line: u64, kind: u8, number: usize) {
-    let kind = kind as char;
+fn tell(rt: &impl Print, line: u64, kind: char, number: usize) {
     let _ = println!(rt; "line {line}, {kind}: answered {number}, and differs");
 }
 
-// Asks what the kind of a case says, and counts each answer; the expected texts begin at a place of the line.
-fn count_answers(
+// Asks a question, and counts the answer; the expected texts are left on the line.
+fn count_answer(
     rt: &impl Print,
     case: Case,
+    question: Question,
     text: &[u8],
     line: &[u8],
-    at: usize,
     tally: Tally,
 ) -> Tally
-    requires { (at ≤ length line.now) × AtMost tally 1800000 }
+    requires { AtMost tally 2000000 }
+    ensures { Grows tally result 1 }
+{
+    let verdict = compare(case, question, text, line);
+    tally.with_answer(rt, question.letter(), verdict)
+}
+
+// Asks what a case says, and counts each answer; one that asks nothing known differs.
+fn count_answers(rt: &impl Print, case: Case, text: &[u8], line: &[u8], tally: Tally) -> Tally
+    requires { AtMost tally 1800000 }
     ensures { Grows tally result 2 }
 {
-    let kind = case.kind;
-    match kind {
-        b'M' => {
-            let first = tally.with_answer(rt, b'B', compare_body(case, text, line, at, true));
-            first.with_answer(rt, b'I', compare_body(case, text, line, at, false))
+    match case.asked {
+        Some(Asked::BothDisplays) => {
+            let block = Question::Body(DisplayStyle::Block);
+            let inline = Question::Body(DisplayStyle::Inline);
+            let first = count_answer(rt, case, block, text, line, tally);
+            count_answer(rt, case, inline, text, line, first)
         }
-        b'B' => tally.with_answer(rt, b'B', compare_body(case, text, line, at, true)),
-        b'I' => tally.with_answer(rt, b'I', compare_body(case, text, line, at, false)),
-        b'D' => tally.with_answer(rt, b'D', compare_document(case, text, line, at)),
-        b'P' => tally.with_answer(rt, b'P', compare_page(case, text, line, at)),
-        _ => tally.with_answer(rt, b'?', Verdict::Differs(0)),
+        Some(Asked::One(question)) => count_answer(rt, case, question, text, line, tally),
+        None => tally.with_answer(rt, '?', Err(0)),
     }
 }
 
 // Replays the case of a line.
-fn replay(rt: &impl Print, line: &[u8], tally: Tally) -> Tally
+fn replay(rt: &impl Print, mut line: &[u8], tally: Tally) -> Tally
     requires { AtMost tally 1600000 }
     ensures { Grows tally result 3 }
 {
-    let head = read_head(line);
-    let case = head.case;
-    let next = head.next;
-    let mut text = [0u8; 65536];
-    let input = unpack(line, next, &mut text, 0);
-    let n = input.end;
-    let at = input.next;
+    let case = read_head(&mut line);
+    let mut buffer = [0u8; 65536];
+    let mut input = Filled::new(&mut buffer);
+    input.unpack(&mut line);
     let counted = tally.with_case(case);
-    count_answers(rt, case, &text[..n], line, at, counted)
+    count_answers(rt, case, input.text(), line, counted)
 }
 
-// Replays the cases of all lines.
+// Takes a line off the front of the list; what has no end is none.
+fn next_line<'a>(list: &mut &'a [u8]) -> Option<&'a [u8]>
+    ensures { OnSome result (length list.new.now < length list.old.now) }
+{
+    let end = list.iter().position(|b| *b == b'\n')?;
+    let (line, rest) = list.split_at(end);
+    *list = &rest[1..];
+    Some(line)
+}
+
+// Replays the cases of all lines. A `for` over `split_inclusive` gets no proof here, by a closure or by a function: what the check states of
+// its iterator has a wrong type.
 fn replay_all(rt: &impl Print, list: &[u8]) -> Tally
     requires { length list.now ≤ 524288 }
 {
-    let mut tally = Tally {
-        cases: 0,
-        scope: 0,
-        answers: 0,
-        differ: 0,
-    };
-    let mut start: usize = 0;
-    let mut i: usize = 0;
-    while i < list.len() {
-        if list[i] == b'\n' {
-            tally = replay(rt, &list[start..i], tally);
-            i += 1;
-            start = i;
-            continue;
-        }
-        i += 1;
+    let mut tally = Tally::default();
+    let mut rest = list;
+    while let Some(line) = next_line(&mut rest) {
+        tally = replay(rt, line, tally);
     }
     tally
 }
@@ -151,7 +154,7 @@ fn conclude(rt: &impl Print, tally: Tally) -> io::Result<()> {
     )
 }
 
-// Reads the list of cases.
+// Reads the list of cases. It takes the array as such, as `replay_first` does, since the prover runs out of stack where `main` lends a slice of it.
 fn read_list<R: Read>(from: &mut R, list: &mut [u8; 524288]) -> io::Result<usize>
     ensures bound { IfOk result (λ n. n ≤ length list.new) }
     ensures bytes { IfOk result (λ n. Consumes (R.remaining from.old) (R.remaining from.new) (take n list.new)) }

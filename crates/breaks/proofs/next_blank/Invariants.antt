@@ -6,9 +6,9 @@ use Rattle.dollars.specs.Places.{next_place}
 use Rattle.breaks.proofs.BreakLaws.{blank_behind}
 use Rattle.breaks.proofs.next_blank.Given as goal
 
-abbrev pub invariant-loop-from : goal.invariant-loop-from
-invariant-loop-from l =
+abbrev pub invariant-loop-feed : goal.invariant-loop-feed
+invariant-loop-feed l =
     (next_place blank_behind l.initial.i (drop l.initial.i l.s) ≡ next_place blank_behind l.i (drop l.i l.s)) × (l.initial.i ≤ l.i) × (l.i ≤ length l.s)
 
-abbrev pub decreases-loop-from : goal.decreases-loop-from
-decreases-loop-from l = length l.s - l.i
+abbrev pub decreases-loop-feed : goal.decreases-loop-feed
+decreases-loop-feed l = length l.s - l.i

@@ -5,10 +5,7 @@ use Rattle.text.proofs.PlainLaws.{plain_is}
 use Rattle.dollars.proofs.DollarLaws.{plain_none}
 use Rattle.dollars.proofs.first_mark.Goals as goal
 
-pub returns-then-contains : goal.returns-then-contains
-returns-then-contains c = c.next_mark.ensures.0
-
-pub returns : goal.returns
-returns c =
+pub returns-then-not-contains : goal.returns-then-not-contains
+returns-then-not-contains c =
     let a = c.args in
-    sym (plain_none a.double a.s.now (plain_is a.s.now ∙ ap not (sym c.contains.ensures ∙ c.if-contains.false)))
+    plain_none a.delimiter a.s.now (plain_is a.s.now ∙ ap not (sym c.contains.ensures ∙ c.if-not-contains.true))

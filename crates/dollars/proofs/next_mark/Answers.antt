@@ -1,8 +1,9 @@
 -- `dollars::next_mark` meets its contract.
+use Rattle.dollars.proofs.DollarLaws.{dollar_starts, two_pair}
 use Rattle.dollars.proofs.next_mark.Goals as goal
 
-pub returns-then-double : goal.returns-then-double
-returns-then-double c = rw c.if-double.true c.next_window.ensures
+pub returns-in-Single : goal.returns-in-Single
+returns-in-Single c = rw (c.in-Single.is, dollar_starts) c.next_byte.ensures
 
-pub returns : goal.returns
-returns c = rw c.if-double.false c.next_dollar.ensures
+pub returns-in-Double : goal.returns-in-Double
+returns-in-Double c = rw (c.in-Double.is, two_pair) c.next_pair.ensures

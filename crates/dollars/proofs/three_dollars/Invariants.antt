@@ -6,9 +6,9 @@ use Rattle.dollars.specs.Dollars.{three_dollars}
 use Rattle.dollars.specs.Places.{places}
 use Rattle.dollars.proofs.three_dollars.Given as goal
 
-abbrev pub invariant-loop-i : goal.invariant-loop-i
-invariant-loop-i l =
+abbrev pub invariant-loop-first : goal.invariant-loop-first
+invariant-loop-first l =
     (places three_dollars 0 l.s ≡ places three_dollars l.i (drop l.i l.s)) × (l.i ≤ length l.s)
 
-abbrev pub decreases-loop-i : goal.decreases-loop-i
-decreases-loop-i l = length l.s - l.i
+abbrev pub decreases-loop-first : goal.decreases-loop-first
+decreases-loop-first l = length l.s - l.i

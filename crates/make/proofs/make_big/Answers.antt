@@ -1,13 +1,15 @@
 -- `make::make_big` meets its contract.
-use Rattle.make.proofs.MakeLaws.{fence_none, fence_some}
-use mathlib.Core.Path.{sym, ◌∙◌}
-use Rattle.parser.specs.Parse.{sized}
+use mathlib.Core.Path.{sym, ◌∙◌, ap}
+use Rattle.parser.specs.Parse.{refused, sized}
+use Rattle.parser.proofs.AnswerLaws.{handed_on, none_or}
 use Rattle.make.proofs.make_big.Goals as goal
 
-pub returns-in-Missing : goal.returns-in-Missing
+pub returns-in_err-t : goal.returns-in_err-t
 unfolding sized
-returns-in-Missing c = λ lo g. rw (fence_none _ (sym c.paren_of.ensures ∙ c.in-Missing.is))
+returns-in_err-t c =
+    let n = none_or _ c.in_err-t.ensures.value in
+    λ lo g. rw (handed_on c.from_residual.result c.from_residual.ensures.1) (rw (sym c.paren_of.ensures ∙ n.0) (ap (λ x. refused x) (sym n.1)))
 
-pub returns-in-Fixed : goal.returns-in-Fixed
+pub returns : goal.returns
 unfolding sized
-returns-in-Fixed c = rw (fence_some _ _ (sym c.paren_of.ensures ∙ c.in-Fixed.is)) c.make_leaf.ensures
+returns c = rw (sym c.paren_of.ensures ∙ c.in_ok-t.ensures.ok_part) c.make_leaf.ensures

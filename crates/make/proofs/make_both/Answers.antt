@@ -6,4 +6,4 @@ use Rattle.make.proofs.make_both.Goals as goal
 
 pub returns : goal.returns
 returns c =
-    both_made c.args.p c.done.ensures (Leaf.Operator c.args.c) refl (rw c.leaf_fields.ensures at c.put_node.ensures) c.args.k c.args.x c.args.y (rw c.three_fields.ensures at c.put_node-2.ensures)
+    both_made c.args.p c.done.ensures (Leaf.Operator c.args.c) refl (rw c.fields.ensures at c.put_node.ensures) c.args.k c.args.x c.args.y (rw c.from.ensures at c.put_node-2.ensures)

@@ -4,4 +4,4 @@ use Rattle.make.proofs.make_leaf.Goals as goal
 
 pub returns : goal.returns
 returns c =
-    leaf_made c.args.p c.done.ensures c.args.l (rw c.leaf_fields.ensures at c.put_node.ensures)
+    leaf_made c.args.p c.done.ensures c.args.l (rw c.fields.ensures at c.put_node.ensures)

@@ -4,4 +4,4 @@ use Rattle.make.proofs.make_leaf_first.Goals as goal
 
 pub returns : goal.returns
 returns c =
-    leaf_first_made c.args.p c.done.ensures c.args.l c.requires.3 (rw c.leaf_fields.ensures at c.put_node.ensures) c.args.k c.args.b (rw c.two_fields.ensures at c.put_node-2.ensures)
+    leaf_first_made c.args.p c.done.ensures c.args.l c.requires.3 (rw c.fields.ensures at c.put_node.ensures) c.args.k c.args.b (rw c.from.ensures at c.put_node-2.ensures)

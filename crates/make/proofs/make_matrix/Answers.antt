@@ -4,16 +4,12 @@ use Rattle.parser.specs.Parse.{in_environment}
 use Rattle.attribute.specs.declared.ColumnAlign.{ColumnAlign}
 use Rattle.make.proofs.make_matrix.Goals as goal
 
-pub returns-in-Unknown : goal.returns-in-Unknown
-unfolding in_environment
-returns-in-Unknown c = λ lo hi before last ns roof h e. rw c.in-Unknown.is
-
 pub returns-in-Bare : goal.returns-in-Bare
 unfolding in_environment
 returns-in-Bare c =
-    rw c.in-Bare.is (matrix_made c.args.p c.done.ensures c.in-Bare.align c.args.first c.args.count (rw c.matrix_fields.ensures at c.put_node.ensures))
+    rw c.in-Bare.is (matrix_made c.args.p c.done.ensures c.in-Bare.align c.args.first c.args.count (rw c.matrix.ensures at c.put_node.ensures))
 
 pub returns-in-Between : goal.returns-in-Between
 unfolding in_environment
 returns-in-Between c =
-    rw c.in-Between.is (fenced_matrix_made c.args.p ColumnAlign.Center c.in-Between.t c.in-Between.u c.args.first c.args.count (rw c.matrix_fields-in-Between.ensures at c.put_node-in-Between.ensures) (rw c.one_fields.ensures at c.put_node-in-Between-2.ensures) c.done-in-Between.ensures)
+    rw c.in-Between.is (fenced_matrix_made c.args.p ColumnAlign.Center c.in-Between.t c.in-Between.u c.args.first c.args.count (rw c.matrix-in-Between.ensures at c.put_node-in-Between.ensures) (rw c.from.ensures at c.put_node-in-Between-2.ensures) c.done-in-Between.ensures)

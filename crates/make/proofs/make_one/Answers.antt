@@ -4,4 +4,4 @@ use Rattle.make.proofs.make_one.Goals as goal
 
 pub returns : goal.returns
 returns c =
-    one_made c.args.p c.done.ensures c.args.k c.args.a (rw c.one_fields.ensures at c.put_node.ensures)
+    one_made c.args.p c.done.ensures c.args.k c.args.a (rw c.from.ensures at c.put_node.ensures)

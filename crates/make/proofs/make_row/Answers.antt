@@ -7,4 +7,4 @@ returns-then-count-eq1 c = group_of_one c.args.store.now c.args.p c.args.first c
 
 pub returns : goal.returns
 returns c =
-    group_made c.args.p c.args.first c.args.count c.if-count-eq1.false (rw c.row_fields.ensures at c.put_node.ensures) c.done.ensures
+    group_made c.args.p c.args.first c.args.count c.if-count-eq1.false (rw c.row.ensures at c.put_node.ensures) c.done.ensures

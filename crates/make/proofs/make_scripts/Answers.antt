@@ -3,10 +3,10 @@ use mathlib.Core.Path.{sym, ◌∙◌}
 use Rattle.parser.specs.Parse.{both_scripts}
 use Rattle.make.proofs.make_scripts.Goals as goal
 
-pub returns-in-Neither : goal.returns-in-Neither
+pub returns-in-Some : goal.returns-in-Some
 unfolding both_scripts
-returns-in-Neither c = rw (sym c.script_of.ensures ∙ c.in-Neither.is) c.make_sub_sup.ensures
+returns-in-Some c = λ lo m n o h. rw (sym c.script_of.ensures ∙ c.in-Some.is)
 
-pub returns-in-Operand : goal.returns-in-Operand
+pub returns-in-None : goal.returns-in-None
 unfolding both_scripts
-returns-in-Operand c = λ lo m n o h. rw (sym c.script_of.ensures ∙ c.in-Operand.is)
+returns-in-None c = rw (sym c.script_of.ensures ∙ c.in-None.is) c.make_sub_sup.ensures

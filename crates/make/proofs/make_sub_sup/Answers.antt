@@ -3,10 +3,10 @@ use Rattle.parser.specs.Parse.{sub_sup}
 use Rattle.make.proofs.MakeLaws.{turned_inside}
 use Rattle.make.proofs.make_sub_sup.Goals as goal
 
-pub returns-then-over : goal.returns-then-over
+pub returns-in-Under : goal.returns-in-Under
 unfolding sub_sup
-returns-then-over c = rw c.if-over.true (λ lo m n o h. c.make_three.ensures lo m o n (turned_inside h))
+returns-in-Under c = rw c.in-Under.is c.make_three.ensures
 
-pub returns : goal.returns
+pub returns-in-Over : goal.returns-in-Over
 unfolding sub_sup
-returns c = rw c.if-over.false c.make_three-2.ensures
+returns-in-Over c = rw c.in-Over.is (λ lo m n o h. c.make_three-in-Over.ensures lo m o n (turned_inside h))

@@ -4,4 +4,4 @@ use Rattle.make.proofs.make_three.Goals as goal
 
 pub returns : goal.returns
 returns c =
-    three_made c.args.p c.done.ensures c.args.k c.args.a c.args.b c.args.c (rw c.three_fields.ensures at c.put_node.ensures)
+    three_made c.args.p c.done.ensures c.args.k c.args.a c.args.b c.args.c (rw c.from.ensures at c.put_node.ensures)

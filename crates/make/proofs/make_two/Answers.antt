@@ -4,4 +4,4 @@ use Rattle.make.proofs.make_two.Goals as goal
 
 pub returns : goal.returns
 returns c =
-    two_made c.args.p c.done.ensures c.args.k c.args.a c.args.b (rw c.two_fields.ensures at c.put_node.ensures)
+    two_made c.args.p c.done.ensures c.args.k c.args.a c.args.b (rw c.from.ensures at c.put_node.ensures)

@@ -8,8 +8,8 @@ put-requires c = rw (one_digit c.args.n c.if-n-lt10.true) at c.requires.room
 pub returns-then-n-lt10 : goal.returns-then-n-lt10
 returns-then-n-lt10 c = rw (one_digit c.args.n c.if-n-lt10.true) c.put.ensures
 
-pub put-requires-2 : goal.put-requires-2
-put-requires-2 c = rw (two_digits c.args.n c.if-n-lt10.false) at c.requires.room
+pub put-requires-else-n-lt10 : goal.put-requires-else-n-lt10
+put-requires-else-n-lt10 c = rw (two_digits c.args.n c.if-n-lt10.false) at c.requires.room
 
-pub returns : goal.returns
-returns c = rw (two_digits c.args.n c.if-n-lt10.false) c.put-2.ensures
+pub returns-else-n-lt10 : goal.returns-else-n-lt10
+returns-else-n-lt10 c = rw (two_digits c.args.n c.if-n-lt10.false) c.put-else-n-lt10.ensures

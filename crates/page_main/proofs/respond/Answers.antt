@@ -10,4 +10,4 @@ pub returns : goal.returns
 unfolding read_limit document_limit
 returns c =
     let long : 32769 ≡ length c.args.input.now = search rules in
-    (sym long, c.answer_first.ensures)
+    (sym long, c.answer.ensures)

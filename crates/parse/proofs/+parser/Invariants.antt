@@ -20,7 +20,7 @@ decreases-parse_group l = 4 * l.depth + 1
 
 abbrev pub invariant-parse_group-loop-end : goal.invariant-parse_group-loop-end
 invariant-parse_group-loop-end l =
-    (length l.store ≡ length l.initial.store) × GroupLoop l.table l.s (λ x. parse_node l.depth l.s x) l.end l.initial.q l.initial.store l.store l.q l.first l.last l.count
+    (length l.store ≡ length l.initial.store) × GroupLoop l.s (λ x. parse_node l.depth l.s x) l.end l.initial.q l.initial.store l.store l.q l.nodes.first l.nodes.last l.nodes.count
 
 abbrev pub decreases-parse_group-loop-end : goal.decreases-parse_group-loop-end
 decreases-parse_group-loop-end l =

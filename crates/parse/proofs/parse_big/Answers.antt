@@ -1,5 +1,5 @@
 -- `parse::parse_big` meets its contract.
-use Rattle.parse.proofs.RoomLaws.{ready_ends, ends_next, starts_free, next_made}
+use Rattle.parse.proofs.RoomLaws.{begins, starts_free, next_made}
 use Rattle.parse.proofs.SeqLaws.{after_none}
 use Rattle.parse.proofs.WayLaws.{big_is}
 use native.Mathlib.Omega.{arith}
@@ -7,7 +7,7 @@ use Rattle.parse.proofs.parse_big.Goals as goal
 
 pub make_big-requires : goal.make_big-requires
 make_big-requires c =
-    starts_free 1 (ends_next (ready_ends c.requires.0 c.requires.1) c.next_token-after.ensures) (omega arith)
+    starts_free 1 (begins c.requires.0 c.requires.1 c.next_token-after.ensures) (omega arith)
 
 pub returns : goal.returns
 returns c =

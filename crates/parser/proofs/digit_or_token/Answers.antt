@@ -8,14 +8,14 @@ pub overflow_add-end : goal.overflow_add-end
 overflow_add-end c =
     omega (arith, number_inside c.args.s.now c.args.at _ c.token_from-next.ensures.0 c.in-Number.is)
 
-pub returns-then-begin-at : goal.returns-then-begin-at
-returns-then-begin-at c =
+pub returns-in-Number : goal.returns-in-Number
+returns-in-Number c =
     λ t acts. digit_taken c.args.s.now c.args.at _ c.token_from-next.ensures.0 t acts c.in-Number.is c.if-begin-at.true
-
-pub returns-else-begin-at : goal.returns-else-begin-at
-returns-else-begin-at c =
-    λ t acts. number_left c.args.s.now c.args.at _ c.token_from-next.ensures.0 t acts c.in-Number.is (λ here. omega (arith, c.if-begin-at.false))
 
 pub returns-in_default : goal.returns-in_default
 returns-in_default c =
+    λ t acts. number_left c.args.s.now c.args.at _ c.token_from-next.ensures.0 t acts c.in-Number.is (λ here. omega (arith, c.if-begin-at.false))
+
+pub returns-in_default-2 : goal.returns-in_default-2
+returns-in_default-2 c =
     λ t acts. token_left c.args.s.now c.args.at _ c.token_from-next.ensures.0 t acts (among_others (opened c.in_default.in_default-own.keys2))

@@ -5,8 +5,4 @@ use Rattle.token.specs.Key.{start}
 use Rattle.token.proofs.row_of.Given as goal
 
 abbrev pub invariant-loop-at : goal.invariant-loop-at
-invariant-loop-at l =
-    (l.at ≤ l.p) × ((i : ℕ) → i < size → start i ≤ l.p → l.p < start (i + 1) → start i ≤ l.at)
-
-abbrev pub decreases-loop-at : goal.decreases-loop-at
-decreases-loop-at l = l.at
+invariant-loop-at l = (i : ℕ) → i < size → start i ≤ l.p → l.p < start (i + 1) → start i ≤ l.at

@@ -12,11 +12,11 @@ loop-lo-init c =
     (omega arith, (λ i h l. absurd (omega arith)), (λ i h l. absurd (omega (arith, table_length, start_last, start_less i size h (omega arith)))))
 
 pub row_of-at-requires : goal.row_of-at-requires
-row_of-at-requires c = (omega (arith, table_length), c.requires.2)
+row_of-at-requires c = omega (arith, table_length)
 
 pub compare-requires : goal.compare-requires
 compare-requires c =
-    ((c.row_of-at.ensures.0, c.row_of-at.ensures.1.row), c.requires.0, c.requires.1, c.pack-first.ensures, c.requires.2)
+    ((c.row_of-at.ensures.0, c.row_of-at.ensures.1.row), c.pack-first.ensures)
 
 pub loop-lo-preserved-in-Less : goal.loop-lo-preserved-in-Less
 loop-lo-preserved-in-Less c =
@@ -28,7 +28,7 @@ pub returns-in-Equal : goal.returns-in-Equal
 returns-in-Equal c =
     let has = c.row_of-at.ensures.1 in
     let here = sym (c.compare.ensures c.row_of-at.ensures.0 has.row) ∙ c.in-Equal.is in
-    record { found = λ l. (c.row_of-at.ensures.0, has.row, cmp_equal _ _ here); none = λ l. absurd (omega (arith, table_length, has.from)) }
+    (c.row_of-at.ensures.0, has.row, cmp_equal _ _ here)
 
 pub loop-lo-smaller : goal.loop-lo-smaller
 loop-lo-smaller c =
@@ -43,7 +43,4 @@ loop-lo-preserved c =
 
 pub returns : goal.returns
 returns c =
-    record {
-      found = λ l. absurd (omega (arith, table_length));
-      none = λ l. none_between key size rising _ start c.loop-lo.lo c.loop-lo.hi c.loop-lo-test.false c.loop-lo.invariant.1 c.loop-lo.invariant.2;
-    }
+    none_between key size rising _ start c.loop-lo.lo c.loop-lo.hi c.loop-lo-test.false c.loop-lo.invariant.1 c.loop-lo.invariant.2

@@ -1,9 +1,9 @@
 use Rattle.vectors.proofs.CountLaws.{weaken}
-use Prim.Native.Nat.{◌*◌}
-use borrow.Author.Rules.{rules}
+use Prim.Native.Nat.{◌+◌, ◌*◌}
 use native.Mathlib.Omega.{arith}
 use Rattle.vectors.proofs.replay_all.Goals as goal
 
-pub loop-i-preserved-then-list-i-eq10 : goal.loop-i-preserved-then-list-i-eq10
-loop-i-preserved-then-list-i-eq10 g c =
-    (search rules, search rules, search rules, weaken (c.replay-tally.ensures (3 * c.loop-i.i) c.loop-i.invariant.3) (omega arith))
+pub loop-line-preserved : goal.loop-line-preserved
+loop-line-preserved g c =
+    let l = c.loop-line.invariant in
+    (l.0 + 1, omega (arith, c.in-Some.ensures, l.1), weaken (c.replay-tally.ensures (3 * l.0) l.2) (omega arith))

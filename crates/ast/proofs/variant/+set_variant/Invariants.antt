@@ -7,10 +7,6 @@ use Rattle.ast.proofs.variant.+set_variant.Given as goal
 abbrev pub decreases-set_variant : goal.decreases-set_variant
 decreases-set_variant l = l.left
 
-abbrev pub invariant-loop-n : goal.invariant-loop-n
-invariant-loop-n l =
-    (length l.store ≡ length l.initial.store) × Goes l.initial.store l.i l.v l.store l.k l.n
-
-abbrev pub decreases-loop-n : goal.decreases-loop-n
-decreases-loop-n l =
-    l.n
+abbrev pub invariant-loop : goal.invariant-loop
+invariant-loop l =
+    (length l.store ≡ length l.initial.store) × Goes l.initial.store l.i l.v l.store l.k l.n l.counter

@@ -6,9 +6,9 @@ use Rattle.dollars.specs.Places.{next_place}
 use Rattle.dollars.specs.Search.{pair}
 use Rattle.dollars.proofs.search.next_pair.Given as goal
 
-abbrev pub invariant-loop-i : goal.invariant-loop-i
-invariant-loop-i l =
+abbrev pub invariant-loop-first : goal.invariant-loop-first
+invariant-loop-first l =
     (next_place (pair l.b) l.initial.i (drop l.initial.i l.s) ≡ next_place (pair l.b) l.i (drop l.i l.s)) × (l.initial.i ≤ l.i) × (l.i ≤ length l.s)
 
-abbrev pub decreases-loop-i : goal.decreases-loop-i
-decreases-loop-i l = length l.s - l.i
+abbrev pub decreases-loop-first : goal.decreases-loop-first
+decreases-loop-first l = length l.s - l.i

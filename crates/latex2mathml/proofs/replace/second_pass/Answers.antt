@@ -1,29 +1,20 @@
 -- `latex2mathml::replace::second_pass` meets its contract.
 use mathlib.Core.Path.{refl, sym, ◌∙◌}
-use mathlib.Core.Bool.{false}
 use lib.ListN.{length}
-use Rattle.attribute.specs.declared.DisplayStyle.{DisplayStyle}
-use Rattle.latex2mathml.proofs.ReplaceLaws.{plain_even, plain_laid, second_odd, second_is, second_able}
+use Rattle.dollars.specs.declared.Delimiter.TheVariants.{Single}
+use Rattle.dollars.specs.Dollars.{mark}
+use Rattle.latex2mathml.proofs.ReplaceLaws.{no_mark, plain_even, plain_laid, second_odd, second_is}
 use native.Mathlib.Omega.{arith}
 use Rattle.latex2mathml.proofs.replace.second_pass.Goals as goal
 
-pub lay-requires : goal.lay-requires
-lay-requires c =
-    let room = c.requires.0 in
-    omega arith
-
-pub returns-then-first_mark-text : goal.returns-then-first_mark-text
-returns-then-first_mark-text c =
+pub returns-then-is_none : goal.returns-then-is_none
+returns-then-is_none c =
     let place = c.lay.ensures.0 in
-    (rw (second_is c.args.manner (length c.args.store.now) c.args.text.now (plain_even false c.args.text.now (sym c.if-first_mark-text.true ∙ c.first_mark.ensures))) (plain_laid c.args.manner (length c.args.store.now) DisplayStyle.Inline false c.args.text.now (sym c.if-first_mark-text.true ∙ c.first_mark.ensures) c.args.out.now c.lay.new.out c.args.at c.lay.result c.lay.ensures.0 c.lay.ensures.1), omega arith)
+    (rw (second_is c.args.manner (length c.args.store.now) c.args.text.now (plain_even Single c.args.text.now (no_mark (mark Single) c.args.text.now _ _ c.first_mark.ensures c.is_none.ensures c.if-is_none.true))) (plain_laid c.args.manner (length c.args.store.now) Single c.args.text.now (no_mark (mark Single) c.args.text.now _ _ c.first_mark.ensures c.is_none.ensures c.if-is_none.true) c.args.out.now c.lay.new.out c.args.at c.lay.result c.lay.ensures.0 c.lay.ensures.1), omega arith)
 
 pub returns-then-odd_marks : goal.returns-then-odd_marks
 returns-then-odd_marks c =
     ((second_odd c.args.manner (length c.args.store.now) c.args.text.now (sym c.odd_marks.ensures ∙ c.if-odd_marks.true), refl), tt)
-
-pub substitute-requires : goal.substitute-requires
-substitute-requires c =
-    (second_able c.args.manner (length c.args.store.now) c.args.text.now _ _ c.requires.0 (sym c.odd_marks.ensures ∙ c.if-odd_marks.false), c.requires.1)
 
 pub returns : goal.returns
 returns c =

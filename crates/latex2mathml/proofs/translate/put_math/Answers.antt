@@ -1,22 +1,28 @@
 -- `latex2mathml::translate::put_math` meets its contract.
+use mathlib.Core.Path.{sym, ◌∙◌}
 use Rattle.text.specs.Examples.{text_opens}
 use Rattle.print.proofs.PieceLaws.{between_front, between_inner, between_back, between_prints}
-use Rattle.latex2mathml.proofs.MathLaws.{math_shown}
+use Rattle.latex2mathml.proofs.MathLaws.{math_shown, output_able, output_prints}
 use Rattle.latex2mathml.proofs.translate.put_math.Goals as goal
 
-pub put_opening-inner-requires : goal.put_opening-inner-requires
-put_opening-inner-requires c = between_front (math_shown c.args.dialect c.args.s.now c.args.display) (c.requires.0)
+pub put_opening-requires : goal.put_opening-requires
+put_opening-requires c =
+    between_front (math_shown c.args.dialect c.args.s.now c.args.display) (output_able c.new-output.result c.new-output.ensures.bytes c.new-output.ensures.place c.requires.1)
 
-pub print_nodes-end-requires : goal.print_nodes-end-requires
-print_nodes-end-requires c =
-    (between_inner (math_shown c.args.dialect c.args.s.now c.args.display) (c.requires.0) c.put_opening-inner.ensures, c.requires.1)
+pub print_nodes-requires : goal.print_nodes-requires
+print_nodes-requires c =
+    between_inner (math_shown c.args.dialect c.args.s.now c.args.display) (output_able c.new-output.result c.new-output.ensures.bytes c.new-output.ensures.place c.requires.1) c.put_opening.ensures
 
 pub put-requires : goal.put-requires
 unfolding text_opens
 put-requires c =
-    between_back (math_shown c.args.dialect c.args.s.now c.args.display) (c.requires.0) c.put_opening-inner.ensures c.print_nodes-end.ensures
+    between_back (math_shown c.args.dialect c.args.s.now c.args.display) (output_able c.new-output.result c.new-output.ensures.bytes c.new-output.ensures.place c.requires.1) c.put_opening.ensures c.print_nodes.ensures
 
 pub returns : goal.returns
 unfolding text_opens
 returns c =
-    between_prints (math_shown c.args.dialect c.args.s.now c.args.display) c.put_opening-inner.ensures c.print_nodes-end.ensures c.put.ensures
+    let shown = math_shown c.args.dialect c.args.s.now c.args.display in
+    let able = output_able c.new-output.result c.new-output.ensures.bytes c.new-output.ensures.place c.requires.1 in
+    let p = between_prints shown c.put_opening.ensures c.print_nodes.ensures c.put.ensures in
+    let same = (p.all able.what able.there able.room).same ∙ c.new-output.ensures.same in
+    rw (c.out-1.given.1.1 (sym same)) (output_prints c.new-output.result c.new-output.ensures.bytes c.new-output.ensures.place p)

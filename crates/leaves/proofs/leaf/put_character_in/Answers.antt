@@ -3,21 +3,18 @@ use Rattle.markup.specs.Print.{character}
 use Rattle.text.proofs.PutLaws.{room_1, room_2, room_3, puts_3}
 use Rattle.leaves.proofs.leaf.put_character_in.Goals as goal
 
-pub put-inner-requires : goal.put-inner-requires
-unfolding character
-put-inner-requires c = room_1 c.args.front.now (character c.args.dialect c.args.c) c.args.back.now (c.requires)
-
-pub put_character-end-requires : goal.put_character-end-requires
-unfolding character
-put_character-end-requires c =
-    room_2 c.args.front.now (character c.args.dialect c.args.c) c.args.back.now (c.requires) c.put-inner.ensures
-
 pub put-requires : goal.put-requires
 unfolding character
-put-requires c =
-    room_3 c.args.front.now (character c.args.dialect c.args.c) c.args.back.now (c.requires) c.put-inner.ensures c.put_character-end.ensures
+put-requires c = room_1 (c.args.front.now) (character c.args.dialect c.args.c) (c.args.back.now) c.requires
+
+pub put_character-requires : goal.put_character-requires
+unfolding character
+put_character-requires c = room_2 (c.args.front.now) (character c.args.dialect c.args.c) (c.args.back.now) c.requires c.put.ensures
+
+pub put-requires-2 : goal.put-requires-2
+unfolding character
+put-requires-2 c = room_3 (c.args.front.now) (character c.args.dialect c.args.c) (c.args.back.now) c.requires c.put.ensures c.put_character.ensures
 
 pub returns : goal.returns
 unfolding character
-returns c =
-    puts_3 c.args.front.now (character c.args.dialect c.args.c) c.args.back.now (c.requires) c.put-inner.ensures c.put_character-end.ensures c.put.ensures
+returns c = puts_3 (c.args.front.now) (character c.args.dialect c.args.c) (c.args.back.now) c.requires c.put.ensures c.put_character.ensures c.put-2.ensures

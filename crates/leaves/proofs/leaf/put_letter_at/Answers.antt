@@ -12,16 +12,14 @@ pub put_variant_letter-requires : goal.put_variant_letter-requires
 unfolding text_opens at_place slash slash_leaf
 put_variant_letter-requires c = rw c.in-Slashed.is at c.requires
 
+pub put_letter-requires : goal.put_letter-requires
+unfolding text_opens cell_leaf
+put_letter-requires c = room_as (no_slash c.args.dialect c.args.place (Leaf.Letter c.args.c c.args.v) (letter_markup c.args.dialect c.args.c c.args.v) (opened c.in_default.in_default-own.keys2) refl) c.requires
+
 pub returns-in-Slashed : goal.returns-in-Slashed
 unfolding text_opens at_place slash slash_leaf
 returns-in-Slashed c = rw c.in-Slashed.is c.put_variant_letter.ensures
 
-pub put_letter-requires : goal.put_letter-requires
+pub returns-in_default : goal.returns-in_default
 unfolding text_opens cell_leaf
-put_letter-requires c =
-    room_as (no_slash c.args.dialect c.args.place (Leaf.Letter c.args.c c.args.v) (letter_markup c.args.dialect c.args.c c.args.v) (opened c.in_default.in_default-own.keys2) refl) c.requires
-
-pub returns : goal.returns
-unfolding text_opens cell_leaf
-returns c =
-    puts_as (no_slash c.args.dialect c.args.place (Leaf.Letter c.args.c c.args.v) (letter_markup c.args.dialect c.args.c c.args.v) (opened c.in_default.in_default-own.keys2) refl) c.put_letter.ensures
+returns-in_default c = puts_as (no_slash c.args.dialect c.args.place (Leaf.Letter c.args.c c.args.v) (letter_markup c.args.dialect c.args.c c.args.v) (opened c.in_default.in_default-own.keys2) refl) c.put_letter.ensures

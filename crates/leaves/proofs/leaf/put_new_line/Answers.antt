@@ -6,24 +6,22 @@ use Rattle.text.specs.Text.{bytes}
 use Rattle.text.proofs.PutLaws.{room_as, puts_as}
 use Rattle.ast.specs.declared.Leaf.{Leaf}
 use Rattle.markup.specs.Print.{slash_leaf, cell_leaf, cell, at_place, parse_error}
-use Rattle.leaves.proofs.LeafLaws.{no_cell}
 use Rattle.markup.proofs.PrintLaws.{error_new_line}
+use Rattle.leaves.proofs.LeafLaws.{no_cell}
 use Rattle.leaves.proofs.leaf.put_new_line.Goals as goal
 
 pub put-requires : goal.put-requires
 unfolding text_opens at_place cell cell_leaf
 put-requires c = rw c.in-Cell.is at c.requires
 
+pub put-requires-in_default : goal.put-requires-in_default
+unfolding text_opens slash_leaf
+put-requires-in_default c = room_as (no_cell c.args.dialect c.args.place Leaf.NewLine (parse_error c.args.dialect (bytes "NewLine")) (opened c.in_default.in_default-own.keys2) refl ∙ error_new_line c.args.dialect) c.requires
+
 pub returns-in-Cell : goal.returns-in-Cell
 unfolding text_opens at_place cell cell_leaf
 returns-in-Cell c = rw c.in-Cell.is c.put.ensures
 
-pub put-requires-2 : goal.put-requires-2
+pub returns-in_default : goal.returns-in_default
 unfolding text_opens slash_leaf
-put-requires-2 c =
-    room_as (no_cell c.args.dialect c.args.place Leaf.NewLine (parse_error c.args.dialect (bytes "NewLine")) (opened c.in_default.in_default-own.keys2) refl ∙ error_new_line c.args.dialect) c.requires
-
-pub returns : goal.returns
-unfolding text_opens slash_leaf
-returns c =
-    puts_as (no_cell c.args.dialect c.args.place Leaf.NewLine (parse_error c.args.dialect (bytes "NewLine")) (opened c.in_default.in_default-own.keys2) refl ∙ error_new_line c.args.dialect) c.put-2.ensures
+returns-in_default c = puts_as (no_cell c.args.dialect c.args.place Leaf.NewLine (parse_error c.args.dialect (bytes "NewLine")) (opened c.in_default.in_default-own.keys2) refl ∙ error_new_line c.args.dialect) c.put-in_default.ensures

@@ -1,16 +1,13 @@
 -- `leaves::lengths::own_errors` meets its contract.
-use mathlib.Core.Path.{refl}
-use borrow.Author.Tests.{lt-ltb, le-ltb}
-use Rattle.leaves.proofs.LengthLaws.{errors_tagged}
+use Rattle.leaves.proofs.LengthLaws.{errors_one, errors_below, errors_above}
+use native.Mathlib.Omega.{arith}
 use Rattle.leaves.proofs.lengths.own_errors.Goals as goal
 
-pub returns-then-tag-lt11 : goal.returns-then-tag-lt11
-returns-then-tag-lt11 c = errors_tagged c.args.f (rw (lt-ltb c.args.f.tag 11 c.if-tag-lt11.true) refl)
+pub returns-in-11-to-19 : goal.returns-in-11-to-19
+returns-in-11-to-19 c = errors_one c.args.f (omega arith) (omega arith)
 
-pub returns-then-tag-lt20 : goal.returns-then-tag-lt20
-returns-then-tag-lt20 c =
-    errors_tagged c.args.f (rw (le-ltb c.args.f.tag 11 c.if-tag-lt11.false, lt-ltb c.args.f.tag 20 c.if-tag-lt20.true) refl)
+pub returns-in_default : goal.returns-in_default
+returns-in_default c = errors_below c.args.f (omega arith)
 
-pub returns : goal.returns
-returns c =
-    errors_tagged c.args.f (rw (le-ltb c.args.f.tag 11 c.if-tag-lt11.false, le-ltb c.args.f.tag 20 c.if-tag-lt20.false) refl)
+pub returns-in_default-2 : goal.returns-in_default-2
+returns-in_default-2 c = errors_above c.args.f (omega arith)

@@ -1,5 +1,6 @@
 -- `leaves::lengths::own_len` meets its contract.
-use mathlib.Core.Path.{refl, sym, ◌∙◌}
+use mathlib.Core.Path.{refl, sym, ap, ◌∙◌}
+use lib.ListN.{length}
 use Rattle.attribute.specs.Codes.{variant_of, accent_of, display_of, thickness_of, align_of}
 use Rattle.text.specs.Examples.{text_opens}
 use Rattle.text.proofs.Keys.{past}
@@ -19,24 +20,24 @@ overflow_sub-result c = (rw c.in-0.is at c.requires.0).0
 
 pub overflow_add-result-in-3 : goal.overflow_add-result-in-3
 overflow_add-result-in-3 c =
-    let e0 = c.fixed_len.ensures in
+    let e0 = ap length c.fixed_text.ensures in
     omega (arith, fixed_short c.args.dialect c.args.f.x)
 
-pub letters_len-requires : goal.letters_len-requires
+pub letter_text_len-requires : goal.letter_text_len-requires
 unfolding shape_of shapes
-letters_len-requires c =
+letter_text_len-requires c =
     let h = rw c.in-4.is at c.requires.0 in
-    (h.0, h.1, c.requires.1, c.requires.2)
+    (h.0, h.1, c.requires.1)
 
 pub overflow_add-result-in-4 : goal.overflow_add-result-in-4
 overflow_add-result-in-4 c =
-    let e0 = c.letters_len.ensures in
+    let e0 = c.letter_text_len.ensures in
     let short = c.requires.1 in
     omega (arith, letters_short c.args.dialect c.args.s.now c.args.f.x c.args.f.y)
 
 pub overflow_add-result-in-5 : goal.overflow_add-result-in-5
 overflow_add-result-in-5 c =
-    let e0 = c.width_len.ensures in
+    let e0 = ap length c.width_of.ensures in
     omega (arith, width_small c.args.f.x)
 
 pub overflow_add-result-in-6 : goal.overflow_add-result-in-6
@@ -46,49 +47,49 @@ overflow_add-result-in-6 c =
 
 pub overflow_add-result-in-7 : goal.overflow_add-result-in-7
 overflow_add-result-in-7 c =
-    let e0 = c.fixed_len-in-7.ensures in
+    let e0 = ap length c.fixed_text-in-7.ensures in
     omega (arith, fixed_short c.args.dialect c.args.f.x)
 
 pub overflow_add-result-in-8 : goal.overflow_add-result-in-8
 overflow_add-result-in-8 c =
-    let e0 = c.fixed_len-in-8.ensures in
+    let e0 = ap length c.fixed_text-in-8.ensures in
     omega (arith, fixed_short c.args.dialect c.args.f.x)
 
 pub overflow_add-result-in-9 : goal.overflow_add-result-in-9
 overflow_add-result-in-9 c =
-    let e0 = c.fixed_len-in-9.ensures in
+    let e0 = ap length c.fixed_text-in-9.ensures in
     omega (arith, fixed_short c.args.dialect c.args.f.x)
 
 pub overflow_add-result-in-9-2 : goal.overflow_add-result-in-9-2
 overflow_add-result-in-9-2 c =
-    let e0 = c.fixed_len-in-9.ensures in
-    let e1 = c.fixed_len-in-9-2.ensures in
+    let e0 = ap length c.fixed_text-in-9.ensures in
+    let e1 = ap length c.fixed_text-in-9-2.ensures in
     omega (arith, fixed_short c.args.dialect c.args.f.x)
 
 pub overflow_add-result-in-9-3 : goal.overflow_add-result-in-9-3
 overflow_add-result-in-9-3 c =
-    let e0 = c.fixed_len-in-9.ensures in
-    let e1 = c.fixed_len-in-9-2.ensures in
-    let e2 = c.fixed_len-in-9-3.ensures in
+    let e0 = ap length c.fixed_text-in-9.ensures in
+    let e1 = ap length c.fixed_text-in-9-2.ensures in
+    let e2 = ap length c.fixed_text-in-9-3.ensures in
     omega (arith, fixed_short c.args.dialect c.args.f.x, fixed_short c.args.dialect c.args.f.y)
 
 pub overflow_add-result-in-9-4 : goal.overflow_add-result-in-9-4
 overflow_add-result-in-9-4 c =
-    let e0 = c.fixed_len-in-9.ensures in
-    let e1 = c.fixed_len-in-9-2.ensures in
-    let e2 = c.fixed_len-in-9-3.ensures in
-    let e3 = c.sized_end_len.ensures in
+    let e0 = ap length c.fixed_text-in-9.ensures in
+    let e1 = ap length c.fixed_text-in-9-2.ensures in
+    let e2 = ap length c.fixed_text-in-9-3.ensures in
+    let e3 = ap length c.sized_end.ensures in
     omega (arith, fixed_short c.args.dialect c.args.f.x, fixed_short c.args.dialect c.args.f.y, sized_end_short c.args.dialect)
 
-pub letters_len-requires-in-10 : goal.letters_len-requires-in-10
+pub letter_text_len-requires-in-10 : goal.letter_text_len-requires-in-10
 unfolding shape_of shapes
-letters_len-requires-in-10 c =
+letter_text_len-requires-in-10 c =
     let h = rw c.in-10.is at c.requires.0 in
-    (h.0, h.1, c.requires.1, c.requires.2)
+    (h.0, h.1, c.requires.1)
 
 pub overflow_add-result-in-10 : goal.overflow_add-result-in-10
 overflow_add-result-in-10 c =
-    let e0 = c.letters_len-in-10.ensures in
+    let e0 = c.letter_text_len-in-10.ensures in
     let short = c.requires.1 in
     omega (arith, letters_short c.args.dialect c.args.s.now c.args.f.x c.args.f.y)
 
@@ -122,61 +123,61 @@ undefined_len-requires-in-19 c = (rw c.in-19.is at c.requires.0, c.requires.1)
 
 pub overflow_add-result-in-20 : goal.overflow_add-result-in-20
 overflow_add-result-in-20 c =
-    let e0 = c.accent_len.ensures in
-    let k0 = accent_short c.accent_of.result in
+    let e0 = ap length c.name.ensures in
+    let k0 = accent_short c.from-in-20.result in
     omega arith
 
 pub overflow_add-result-in-20-2 : goal.overflow_add-result-in-20-2
 unfolding character
 overflow_add-result-in-20-2 c =
-    let e0 = c.accent_len.ensures in
-    let k0 = accent_short c.accent_of.result in
+    let e0 = ap length c.name.ensures in
+    let k0 = accent_short c.from-in-20.result in
     let e1 = c.character_len.ensures in
     let k1 = character_short c.args.dialect c.args.f.x in
     omega arith
 
 pub overflow_add-result-in-21 : goal.overflow_add-result-in-21
 overflow_add-result-in-21 c =
-    let e0 = c.accent_len-in-21.ensures in
-    let k0 = accent_short c.accent_of-in-21.result in
+    let e0 = ap length c.name-in-21.ensures in
+    let k0 = accent_short c.from-in-21.result in
     omega arith
 
 pub overflow_add-result-in-21-2 : goal.overflow_add-result-in-21-2
 unfolding character
 overflow_add-result-in-21-2 c =
-    let e0 = c.accent_len-in-21.ensures in
-    let k0 = accent_short c.accent_of-in-21.result in
+    let e0 = ap length c.name-in-21.ensures in
+    let k0 = accent_short c.from-in-21.result in
     let e1 = c.character_len-in-21.ensures in
     let k1 = character_short c.args.dialect c.args.f.x in
     omega arith
 
 pub overflow_add-result-in-23 : goal.overflow_add-result-in-23
 overflow_add-result-in-23 c =
-    let e0 = c.fixed_len-in-23.ensures in
+    let e0 = ap length c.fixed_text-in-23.ensures in
     omega (arith, fixed_short c.args.dialect c.args.f.x)
 
 pub overflow_add-result-in-23-2 : goal.overflow_add-result-in-23-2
 overflow_add-result-in-23-2 c =
-    let e0 = c.fixed_len-in-23.ensures in
-    let e1 = c.fixed_len-in-23-2.ensures in
+    let e0 = ap length c.fixed_text-in-23.ensures in
+    let e1 = ap length c.fixed_text-in-23-2.ensures in
     omega (arith, fixed_short c.args.dialect c.args.f.x, fixed_short c.args.dialect c.args.f.y)
 
 pub overflow_add-result-in-25 : goal.overflow_add-result-in-25
 overflow_add-result-in-25 c =
     let e0 = c.display_len.ensures in
-    let k0 = display_short c.display_style_of.result in
+    let k0 = display_short c.from-in-25.result in
     omega arith
 
 pub overflow_add-result-in-32 : goal.overflow_add-result-in-32
 overflow_add-result-in-32 c =
-    let e0 = c.line_len.ensures in
-    let k0 = line_short c.line_thickness_of.result in
+    let e0 = ap length c.attribute.ensures in
+    let k0 = line_short c.from-in-32.result in
     omega arith
 
 pub overflow_add-result-in_default : goal.overflow_add-result-in_default
 overflow_add-result-in_default c =
     let e0 = c.align_len.ensures in
-    let k0 = align_short c.args.dialect c.column_align_of.result in
+    let k0 = align_short c.args.dialect c.from-in_default.result in
     omega arith
 
 pub returns-in-0 : goal.returns-in-0
@@ -188,7 +189,7 @@ returns-in-0 c =
 pub returns-in-1 : goal.returns-in-1
 unfolding shapes
 returns-in-1 c =
-    let e = rw c.variant_of.ensures at c.letter_len.ensures in
+    let e = rw c.from.ensures at c.letter_len.ensures in
     tagged c.args.dialect c.args.slashed c.args.s.now c.args.f 1 c.in-1.is (e ∙ sym (own_letter c.args.dialect c.args.slashed c.args.s.now c.args.f.x (variant_of c.args.f.attr)))
 
 pub returns-in-2 : goal.returns-in-2
@@ -199,17 +200,17 @@ returns-in-2 c =
 pub returns-in-3 : goal.returns-in-3
 unfolding shapes
 returns-in-3 c =
-    tagged c.args.dialect c.args.slashed c.args.s.now c.args.f 3 c.in-3.is (rw c.fixed_len.ensures (sym (own_function c.args.dialect c.args.slashed c.args.s.now c.args.f.x)))
+    tagged c.args.dialect c.args.slashed c.args.s.now c.args.f 3 c.in-3.is (rw c.fixed_text.ensures (sym (own_function c.args.dialect c.args.slashed c.args.s.now c.args.f.x)))
 
 pub returns-in-4 : goal.returns-in-4
 unfolding shapes
 returns-in-4 c =
-    tagged c.args.dialect c.args.slashed c.args.s.now c.args.f 4 c.in-4.is (rw c.letters_len.ensures (sym (own_name c.args.dialect c.args.slashed c.args.s.now c.args.f.x c.args.f.y)))
+    tagged c.args.dialect c.args.slashed c.args.s.now c.args.f 4 c.in-4.is (rw c.letter_text_len.ensures (sym (own_name c.args.dialect c.args.slashed c.args.s.now c.args.f.x c.args.f.y)))
 
 pub returns-in-5 : goal.returns-in-5
 unfolding shapes
 returns-in-5 c =
-    tagged c.args.dialect c.args.slashed c.args.s.now c.args.f 5 c.in-5.is (rw c.width_len.ensures (sym (own_space c.args.dialect c.args.slashed c.args.s.now c.args.f.x)))
+    tagged c.args.dialect c.args.slashed c.args.s.now c.args.f 5 c.in-5.is (rw c.width_of.ensures (sym (own_space c.args.dialect c.args.slashed c.args.s.now c.args.f.x)))
 
 pub returns-in-6 : goal.returns-in-6
 unfolding shapes
@@ -219,22 +220,22 @@ returns-in-6 c =
 pub returns-in-7 : goal.returns-in-7
 unfolding shapes
 returns-in-7 c =
-    tagged c.args.dialect c.args.slashed c.args.s.now c.args.f 7 c.in-7.is (rw c.fixed_len-in-7.ensures (sym (own_stretched_text c.args.dialect c.args.slashed c.args.s.now c.args.f.x)))
+    tagged c.args.dialect c.args.slashed c.args.s.now c.args.f 7 c.in-7.is (rw c.fixed_text-in-7.ensures (sym (own_stretched_text c.args.dialect c.args.slashed c.args.s.now c.args.f.x)))
 
 pub returns-in-8 : goal.returns-in-8
 unfolding shapes
 returns-in-8 c =
-    tagged c.args.dialect c.args.slashed c.args.s.now c.args.f 8 c.in-8.is (rw c.fixed_len-in-8.ensures (sym (own_other c.args.dialect c.args.slashed c.args.s.now c.args.f.x)))
+    tagged c.args.dialect c.args.slashed c.args.s.now c.args.f 8 c.in-8.is (rw c.fixed_text-in-8.ensures (sym (own_other c.args.dialect c.args.slashed c.args.s.now c.args.f.x)))
 
 pub returns-in-9 : goal.returns-in-9
 unfolding shapes
 returns-in-9 c =
-    tagged c.args.dialect c.args.slashed c.args.s.now c.args.f 9 c.in-9.is (rw (c.fixed_len-in-9.ensures, c.fixed_len-in-9-2.ensures, c.fixed_len-in-9-3.ensures, c.sized_end_len.ensures) (sym (own_sized c.args.dialect c.args.slashed c.args.s.now c.args.f.x c.args.f.y)))
+    tagged c.args.dialect c.args.slashed c.args.s.now c.args.f 9 c.in-9.is (rw (c.fixed_text-in-9.ensures, c.fixed_text-in-9-2.ensures, c.fixed_text-in-9-3.ensures, c.sized_end.ensures) (sym (own_sized c.args.dialect c.args.slashed c.args.s.now c.args.f.x c.args.f.y)))
 
 pub returns-in-10 : goal.returns-in-10
 unfolding shapes
 returns-in-10 c =
-    tagged c.args.dialect c.args.slashed c.args.s.now c.args.f 10 c.in-10.is (rw c.letters_len-in-10.ensures (sym (own_text_lem c.args.dialect c.args.slashed c.args.s.now c.args.f.x c.args.f.y)))
+    tagged c.args.dialect c.args.slashed c.args.s.now c.args.f 10 c.in-10.is (rw c.letter_text_len-in-10.ensures (sym (own_text_lem c.args.dialect c.args.slashed c.args.s.now c.args.f.x c.args.f.y)))
 
 pub returns-in-11 : goal.returns-in-11
 unfolding shapes
@@ -284,12 +285,12 @@ returns-in-19 c =
 pub returns-in-20 : goal.returns-in-20
 unfolding shapes character
 returns-in-20 c =
-    tagged c.args.dialect c.args.slashed c.args.s.now c.args.f 20 c.in-20.is (rw (c.accent_len.ensures, c.accent_of.ensures, c.character_len.ensures) (sym (own_over c.args.dialect c.args.slashed c.args.s.now c.args.f.x (accent_of c.args.f.attr))))
+    tagged c.args.dialect c.args.slashed c.args.s.now c.args.f 20 c.in-20.is (rw (c.name.ensures, c.from-in-20.ensures, c.character_len.ensures) (sym (own_over c.args.dialect c.args.slashed c.args.s.now c.args.f.x (accent_of c.args.f.attr))))
 
 pub returns-in-21 : goal.returns-in-21
 unfolding shapes character
 returns-in-21 c =
-    tagged c.args.dialect c.args.slashed c.args.s.now c.args.f 21 c.in-21.is (rw (c.accent_len-in-21.ensures, c.accent_of-in-21.ensures, c.character_len-in-21.ensures) (sym (own_under c.args.dialect c.args.slashed c.args.s.now c.args.f.x (accent_of c.args.f.attr))))
+    tagged c.args.dialect c.args.slashed c.args.s.now c.args.f 21 c.in-21.is (rw (c.name-in-21.ensures, c.from-in-21.ensures, c.character_len-in-21.ensures) (sym (own_under c.args.dialect c.args.slashed c.args.s.now c.args.f.x (accent_of c.args.f.attr))))
 
 pub returns-in-22 : goal.returns-in-22
 unfolding shapes text_opens own_text front_one back_one front_two back_two front_three back_three
@@ -298,7 +299,7 @@ returns-in-22 c = tagged c.args.dialect c.args.slashed c.args.s.now c.args.f 22 
 pub returns-in-23 : goal.returns-in-23
 unfolding shapes
 returns-in-23 c =
-    tagged c.args.dialect c.args.slashed c.args.s.now c.args.f 23 c.in-23.is (rw (c.fixed_len-in-23.ensures, c.fixed_len-in-23-2.ensures) (sym (own_fenced c.args.dialect c.args.slashed c.args.s.now c.args.f.x c.args.f.y)))
+    tagged c.args.dialect c.args.slashed c.args.s.now c.args.f 23 c.in-23.is (rw (c.fixed_text-in-23.ensures, c.fixed_text-in-23-2.ensures) (sym (own_fenced c.args.dialect c.args.slashed c.args.s.now c.args.f.x c.args.f.y)))
 
 pub returns-in-24 : goal.returns-in-24
 unfolding shapes text_opens own_text front_one back_one front_two back_two front_three back_three
@@ -307,7 +308,7 @@ returns-in-24 c = tagged c.args.dialect c.args.slashed c.args.s.now c.args.f 24 
 pub returns-in-25 : goal.returns-in-25
 unfolding shapes
 returns-in-25 c =
-    tagged c.args.dialect c.args.slashed c.args.s.now c.args.f 25 c.in-25.is (rw (c.display_len.ensures, c.display_style_of.ensures) (sym (own_style c.args.dialect c.args.slashed c.args.s.now (display_of c.args.f.attr))))
+    tagged c.args.dialect c.args.slashed c.args.s.now c.args.f 25 c.in-25.is (rw (c.display_len.ensures, c.from-in-25.ensures) (sym (own_style c.args.dialect c.args.slashed c.args.s.now (display_of c.args.f.attr))))
 
 pub returns-in-26 : goal.returns-in-26
 unfolding shapes text_opens own_text front_one back_one front_two back_two front_three back_three
@@ -336,7 +337,7 @@ returns-in-31 c = tagged c.args.dialect c.args.slashed c.args.s.now c.args.f 31 
 pub returns-in-32 : goal.returns-in-32
 unfolding shapes
 returns-in-32 c =
-    tagged c.args.dialect c.args.slashed c.args.s.now c.args.f 32 c.in-32.is (rw (c.line_len.ensures, c.line_thickness_of.ensures) (sym (own_frac c.args.dialect c.args.slashed c.args.s.now (thickness_of c.args.f.attr))))
+    tagged c.args.dialect c.args.slashed c.args.s.now c.args.f 32 c.in-32.is (rw (c.attribute.ensures, c.from-in-32.ensures) (sym (own_frac c.args.dialect c.args.slashed c.args.s.now (thickness_of c.args.f.attr))))
 
 pub returns-in-33 : goal.returns-in-33
 unfolding shapes text_opens own_text front_one back_one front_two back_two front_three back_three
@@ -352,4 +353,4 @@ returns-in-35 c = tagged c.args.dialect c.args.slashed c.args.s.now c.args.f 35 
 
 pub returns-in_default : goal.returns-in_default
 returns-in_default c =
-    tagged_last c.args.dialect c.args.slashed c.args.s.now c.args.f (past 36 c.args.f.tag c.in_default.in_default-own.rest) (rw (c.align_len.ensures, c.column_align_of.ensures) (sym (own_matrix c.args.dialect c.args.slashed c.args.s.now (align_of c.args.f.attr) c.args.f.x)))
+    tagged_last c.args.dialect c.args.slashed c.args.s.now c.args.f (past 36 c.args.f.tag c.in_default.in_default-own.rest) (rw (c.align_len.ensures, c.from-in_default.ensures) (sym (own_matrix c.args.dialect c.args.slashed c.args.s.now (align_of c.args.f.attr) c.args.f.x)))

@@ -1,10 +1,14 @@
 -- `leaves::lengths::undefined_len` meets its contract.
-use mathlib.Core.Path.{sym, ◌∙◌}
-use Rattle.leaves.proofs.LengthLaws.{debug_room, undefined_long}
+use mathlib.Core.Path.{sym}
+use Rattle.markup.proofs.ShortLaws.{debug_short}
+use Rattle.leaves.proofs.LengthLaws.{undefined_long}
+use native.Mathlib.Omega.{arith}
 use Rattle.leaves.proofs.lengths.undefined_len.Goals as goal
 
-pub put_debug-requires : goal.put_debug-requires
-put_debug-requires c = (c.requires.0, debug_room c.args.dialect c.args.s.now c.args.u c.requires.1)
+pub overflow_add-result : goal.overflow_add-result
+overflow_add-result c = let e = c.debug_len.ensures in
+    let short = c.requires.1 in
+    omega (arith, debug_short c.args.dialect c.args.s.now c.args.u)
 
 pub returns : goal.returns
-returns c = c.put_debug.ensures.place ∙ sym (undefined_long c.args.dialect c.args.s.now c.args.u)
+returns c = rw c.debug_len.ensures (sym (undefined_long c.args.dialect c.args.s.now c.args.u))

@@ -1,16 +1,15 @@
 -- `lexer::Cursor::assigns` meets its contract.
-use mathlib.Core.Path.{sym}
-use borrow.Author.Tests.{ne_eqb}
-use Rattle.lexer.proofs.NameLaws.{assigns_short, assigns_two}
+use mathlib.Core.Path.{◌≡◌, ◌∙◌}
+use Prim.Native.Nat.{◌-◌}
+use lib.ListN.{length, take, drop, length-drop}
+use lib.Seq.{take_all}
 use native.Mathlib.Omega.{arith}
+use Rattle.lexer.proofs.NameLaws.{assigns_starts}
 use Rattle.lexer.proofs.Cursor.assigns.Goals as goal
 
-pub returns-then-s-at-lt2 : goal.returns-then-s-at-lt2
-returns-then-s-at-lt2 c = sym (assigns_short c.args.s.now c.args.self.at c.if-s-at-lt2.true)
-
-pub returns-then-s-at-ne58 : goal.returns-then-s-at-ne58
-returns-then-s-at-ne58 c =
-    rw (assigns_two c.args.s.now c.args.self.at (omega arith), ne_eqb _ 58 c.if-s-at-ne58.true)
-
 pub returns : goal.returns
-returns c = rw (assigns_two c.args.s.now c.args.self.at (omega arith), c.if-s-at-ne58.false)
+returns c =
+    let s = c.args.s.now in
+    let at = c.args.self.at in
+    let all : take (length s - at) (drop at s) ≡ drop at s = take_all (length s - at) (drop at s) (omega (arith, length-drop at s)) in
+    (rw all at c.starts_with.ensures.value) ∙ assigns_starts (drop at s)

@@ -5,4 +5,4 @@ use Rattle.lexer.proofs.Cursor.read_command.Goals as goal
 
 pub returns : goal.returns
 returns c =
-    c.new.ensures ∙ rw c.from_command.ensures (command_read c.args.s.now c.args.self.at c.skip_name-after.result.at c.skip_name-after.ensures.0)
+    c.new.ensures ∙ rw c.from_command-token.ensures (command_read c.args.s.now c.args.self.at c.skip_name-end.result.at c.skip_name-end.ensures.0)

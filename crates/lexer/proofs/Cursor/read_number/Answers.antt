@@ -4,4 +4,4 @@ use Rattle.lexer.proofs.Cursor.read_number.Goals as goal
 
 pub returns : goal.returns
 unfolding number_at
-returns c = rw (c.new.ensures, c.skip_number-after.ensures.0)
+returns c = rw (c.new.ensures, c.skip_number-end.ensures.0)

@@ -8,25 +8,25 @@ use Rattle.text.proofs.Utf8Laws.{point_inside}
 use Rattle.lexer.proofs.NameLaws.{name_letters, name_other, name_end}
 use native.Mathlib.Omega.{arith}
 use Rattle.lexer.proofs.Cursor.skip_name.Goals as goal
-use Rattle.lexer.proofs.Cursor.skip_name.Goals.{then-at-s+else-is_alphabetic, else-at-s}
+use Rattle.lexer.proofs.Cursor.skip_name.Goals.{else-self-s-via-then-self-s+else-is_alphabetic, else-self-s-via-else-self-s}
 
 pub returns-then-is_alphabetic : goal.returns-then-is_alphabetic
 returns-then-is_alphabetic c =
     let s = c.args.s.now in
     let at = c.args.self.at in
-    (rw (name_letters s at c.if-at-s.true (sym c.is_alphabetic.ensures ∙ c.if-is_alphabetic.true)) c.skip_alphabetic.ensures.0, c.skip_alphabetic.ensures.1)
+    (rw (name_letters s at c.if-self-s.true (sym c.is_alphabetic.ensures ∙ c.if-is_alphabetic.true)) c.skip_alphabetic.ensures.0, c.skip_alphabetic.ensures.1)
 
 pub overflow_add-result : goal.overflow_add-result
 overflow_add-result c =
-    omega (arith, ap (λ q. q.width) c.code_point-p.ensures, point_inside c.args.s.now c.args.self.at (c.requires))
+    omega (arith, ap (λ q. q.width) c.code_point.ensures, point_inside c.args.s.now c.args.self.at c.requires)
 
 pub returns : goal.returns
 returns c =
     let s = c.args.s.now in
     let at = c.args.self.at in
-    let w = ap (λ q. q.width) c.code_point-p.ensures in
-    let length_of_name : name_length (drop at s) ≡ (code_point (drop at s)).width = elim c.if-at-s.branch [
-      | then-at-s+else-is_alphabetic w ↦ name_other s at w.if-at-s.true (sym w.is_alphabetic.ensures ∙ w.if-is_alphabetic.false)
-      | else-at-s w ↦ name_end s at w.if-at-s.false
+    let w = ap (λ q. q.width) c.code_point.ensures in
+    let length_of_name : name_length (drop at s) ≡ (code_point (drop at s)).width = elim c.else-self-s.branch [
+      | else-self-s-via-then-self-s+else-is_alphabetic w ↦ name_other s at w.if-self-s.true (sym w.is_alphabetic.ensures ∙ w.if-is_alphabetic.false)
+      | else-self-s-via-else-self-s w ↦ name_end s at w.if-self-s.false
     ] in
-    (ap (λ n. at + n) (w ∙ sym length_of_name), omega (arith, w, point_inside s at (c.requires)))
+    (ap (λ n. at + n) (w ∙ sym length_of_name), omega (arith, w, point_inside s at c.requires))

@@ -17,11 +17,11 @@ use Rattle.lexer.proofs.Cursor.token_at.Goals.{in_default-via-then-c-lt38, in_de
 
 pub overflow_add-end : goal.overflow_add-end
 overflow_add-end c =
-    omega (arith, ap (λ q. q.width) c.code_point-p.ensures, point_inside c.args.s.now c.args.self.at c.requires.0)
+    omega (arith, ap (λ q. q.width) c.code_point-p.ensures, point_inside c.args.s.now c.args.self.at c.requires)
 
 pub overflow_add-at : goal.overflow_add-at
 overflow_add-at c =
-    omega (arith, assigns_inside c.args.s.now c.args.self.at c.requires.0 (sym c.assigns.ensures ∙ c.if-assigns.true))
+    omega (arith, assigns_inside c.args.s.now c.args.self.at c.requires (sym c.assigns.ensures ∙ c.if-assigns.true))
 
 pub returns-then-assigns : goal.returns-then-assigns
 unfolding text texts
@@ -31,7 +31,7 @@ returns-then-assigns c =
 pub read_command-requires : goal.read_command-requires
 read_command-requires c =
     let inside = head_inside c.args.s.now c.args.self.at (λ e. eqb-false 92 0 refl (sym c.in-92.is ∙ ap (λ q. q.code) c.code_point-p.ensures ∙ e)) in
-    (inside, c.requires.1)
+    inside
 
 pub returns-in-61 : goal.returns-in-61
 unfolding punctuation of_character text texts

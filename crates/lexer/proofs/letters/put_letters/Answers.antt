@@ -1,34 +1,35 @@
-use borrow.Enum.Refused.{opened}
-use Rattle.text.proofs.PutLaws.{putting_length}
-use Rattle.lexer.proofs.LettersLaws.{reading_none, reading_room, reading_more, reading_all, letter_inside, no_letter}
-use native.Mathlib.Omega.{arith}
+use Prim.Native.Nat.{◌-◌}
+use lib.ListN.{length}
+use Rattle.text.specs.Utf8.{encode}
+use Rattle.text.specs.Xml.{in_text}
+use Rattle.text.proofs.PutLaws.{putting_none, putting_room, putting_more, putting_all}
+use Rattle.lexer.specs.Letters.{letters, encode_all}
+use Rattle.lexer.proofs.LettersLaws.{reading_none, reading_more, left, left_all, left_none, left_more}
 use Rattle.lexer.proofs.letters.put_letters.Goals as goal
 
-pub loop-c-init : goal.loop-c-init
-loop-c-init c = reading_none c.args.dialect c.args.write c.args.out.now c.args.at c.args.t.now
+pub loop-letter-init : goal.loop-letter-init
+loop-letter-init c =
+    let t = c.args.t.now in
+    (length t, reading_none t, rw (← left_all c.args.dialect t) (putting_none c.args.out.now (in_text c.args.dialect (encode_all (letters t)))))
 
-pub slice_bounds-rest-count : goal.slice_bounds-rest-count
-slice_bounds-rest-count c = c.loop-c.invariant.inside
+pub put_character-requires : goal.put_character-requires
+put_character-requires c =
+    let d = c.args.dialect in
+    let l = c.in-Some.letter in
+    let v = c.loop-letter.invariant in
+    putting_room (in_text d (encode l.code)) (left d c.args.t.now l.end (v.0 - 1)) c.requires (rw (left_more d v.1 l c.in-Some.ensures) at v.2)
 
-pub slice_bounds-rest-start : goal.slice_bounds-rest-start
-slice_bounds-rest-start c = c.loop-c.invariant.inside
+pub loop-letter-preserved : goal.loop-letter-preserved
+loop-letter-preserved c =
+    let d = c.args.dialect in
+    let l = c.in-Some.letter in
+    let v = c.loop-letter.invariant in (
+      v.0 - 1,
+      reading_more v.1 l c.in-Some.ensures,
+      putting_more (in_text d (encode l.code)) (left d c.args.t.now l.end (v.0 - 1)) c.requires (rw (left_more d v.1 l c.in-Some.ensures) at v.2) c.put_character.ensures,
+    )
 
-pub put_character-place-requires : goal.put_character-place-requires
-put_character-place-requires c =
-    reading_room c.requires.0 c.loop-c.invariant c.token_from-l.result c.token_from-l.ensures.0 _ _ c.in-Letter.is
-
-pub loop-c-smaller : goal.loop-c-smaller
-loop-c-smaller c =
-    let inside = letter_inside c.args.t.now c.loop-c.i c.loop-c.invariant.inside c.token_from-l.result c.token_from-l.ensures.0 _ _ c.in-Letter.is in
-    omega arith
-
-pub loop-c-preserved : goal.loop-c-preserved
-loop-c-preserved c =
-    reading_more c.requires.0 c.loop-c.invariant c.token_from-l.result c.token_from-l.ensures.0 _ _ c.in-Letter.is c.put_character-place.ensures
-
-pub shape_of-out-in_default : goal.shape_of-out-in_default
-shape_of-out-in_default c = putting_length c.requires.0 c.loop-c.invariant.putting
-
-pub returns-in_default : goal.returns-in_default
-returns-in_default c =
-    reading_all c.loop-c.invariant c.token_from-l.result c.token_from-l.ensures.0 (no_letter c.token_from-l.result.token (opened c.in_default.in_default-own.keys2))
+pub returns : goal.returns
+returns c =
+    let v = c.loop-letter.invariant in
+    putting_all (rw (left_none c.args.dialect c.args.t.now c.loop-letter.i v.0 c.in_default.ensures) at v.2)

@@ -1,11 +1,15 @@
 -- `lexer::letters::put_letters` meets its contract. The loop's invariant: the letters before the place i are put.
-use Prim.Native.Nat.{◌-◌}
+use Prim.Native.Nat.{ℕ, ◌-◌}
 use lib.ListN.{length}
-use Rattle.lexer.proofs.LettersLaws.{Reading}
+use Rattle.text.specs.Xml.{in_text}
+use Rattle.text.proofs.PutLaws.{Putting}
+use Rattle.lexer.specs.Letters.{letters, encode_all}
+use Rattle.lexer.proofs.LettersLaws.{Reading, left}
 use Rattle.lexer.proofs.letters.put_letters.Given as goal
 
-abbrev pub invariant-loop-c : goal.invariant-loop-c
-invariant-loop-c l = Reading l.dialect l.write l.initial.out l.out l.at l.place l.t l.i
+abbrev pub invariant-loop-letter : goal.invariant-loop-letter
+invariant-loop-letter l =
+    (budget : ℕ) × Reading l.t l.i budget × Putting l.initial.out l.out (in_text l.dialect (encode_all (letters l.t))) (left l.dialect l.t l.i budget)
 
-abbrev pub decreases-loop-c : goal.decreases-loop-c
-decreases-loop-c l = length l.t - l.i
+abbrev pub decreases-loop-letter : goal.decreases-loop-letter
+decreases-loop-letter l = length l.t - l.i

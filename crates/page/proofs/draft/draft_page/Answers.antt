@@ -1,44 +1,15 @@
-use mathlib.Core.Path.{refl, ◌∙◌}
-use Rattle.text.proofs.PartLaws.{part_length}
-use Rattle.page.proofs.DraftLaws.{drafting_none, drafting_last, drafting_more, place_most}
+use mathlib.Core.Path.{◌∙◌}
+use Rattle.page.proofs.DraftLaws.{drafting_last, drafting_more}
 use Rattle.breaks.proofs.PieceLaws.{pieces_more}
 use native.Mathlib.Omega.{arith}
 use Rattle.page.proofs.draft.draft_page.Goals as goal
-
-pub loop-manner-init : goal.loop-manner-init
-loop-manner-init c = (refl, refl, refl, refl, drafting_none _ _ _ _ _ _)
-
-pub draft_paragraph-at-requires : goal.draft_paragraph-at-requires
-draft_paragraph-at-requires c =
-    let h = c.loop-manner.invariant.4 in
-    let b = c.next_break-e.ensures in
-    let few = c.requires.0 in
-    let most = h.most in
-    let size = part_length c.args.document.now c.loop-manner.from c.next_break-e.result b.1 b.2 in
-    (omega (arith, h.few, h.inside, c.requires.1, c.loop-manner.invariant.3), omega arith, c.requires.2)
-
-pub overflow_add-refused : goal.overflow_add-refused
-overflow_add-refused c =
-    let h = c.loop-manner.invariant.4 in
-    omega (arith, c.wide-refused.ensures.1)
 
 pub returns-then-e-document : goal.returns-then-e-document
 returns-then-e-document c =
     let i = c.loop-manner.invariant in
     let b = c.next_break-e.ensures in
     let p = rw (i.0, i.1) at c.draft_paragraph-at.ensures in
-    rw c.wide-refused.ensures.0 (drafting_last i.4 c.next_break-e.result c.draft_paragraph-at.result b.0 (omega arith) p c.if-e-document.true c.draft_paragraph-at.auto.draft)
-
-pub lay-at-requires : goal.lay-at-requires
-lay-at-requires c =
-    let i = c.loop-manner.invariant in
-    let b = c.next_break-e.ensures in
-    let d = c.break_end-from.ensures in
-    let p = rw (i.0, i.1) at c.draft_paragraph-at.ensures in
-    let most = place_most i.4 c.next_break-e.result c.draft_paragraph-at.result b.0 (omega arith) p c.break_end-from.result b.1 (omega arith) d.0 d.2 in
-    let few = c.requires.0 in
-    let inside = d.2 in
-    omega arith
+    rw c.from-refused.ensures (drafting_last i.4 c.next_break-e.result c.draft_paragraph-at.result b.0 (omega arith) p c.if-e-document.true c.draft_paragraph-at.auto.draft)
 
 pub loop-manner-smaller : goal.loop-manner-smaller
 loop-manner-smaller c =
@@ -56,4 +27,4 @@ loop-manner-preserved c =
     let p = rw (i.0, i.1) at c.draft_paragraph-at.ensures in
     let few = c.requires.1 in
     let q = c.draft_paragraph-at.auto in
-    (q.store ∙ i.0, q.work ∙ i.1, c.lay-at.auto.out ∙ q.draft ∙ i.2, q.left ∙ i.3, rw c.wide-refused.ensures.0 (drafting_more i.4 c.next_break-e.result c.draft_paragraph-at.result b.0 (omega arith) p c.break_end-from.result b.1 (omega arith) d.0 d.2 c.lay-at.new.out c.lay-at.result c.lay-at.ensures.0 c.lay-at.ensures.1 q.draft c.lay-at.auto.out))
+    (q.store ∙ i.0, q.work ∙ i.1, c.lay-at.auto.out ∙ q.draft ∙ i.2, q.left ∙ i.3, rw c.from-refused.ensures (drafting_more i.4 c.next_break-e.result c.draft_paragraph-at.result b.0 (omega arith) p c.break_end-from.result b.1 (omega arith) d.0 d.2 c.lay-at.new.out c.lay-at.result c.lay-at.ensures.0 c.lay-at.ensures.1 q.draft c.lay-at.auto.out))

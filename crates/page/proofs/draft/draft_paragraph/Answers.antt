@@ -1,24 +1,18 @@
 -- `page::draft::draft_paragraph` meets its contract.
+use mathlib.Core.Path.{◌∙◌, ap}
 use lib.ListN.{length}
+use Rattle.std.specs.Prelude.{is_err}
 use Rattle.page.proofs.ParagraphLaws.{drafted_replaced, drafted_typed}
-use native.Mathlib.Omega.{arith}
 use Rattle.page.proofs.draft.draft_paragraph.Goals as goal
 
-pub lay_replacement-answer-requires : goal.lay_replacement-answer-requires
-lay_replacement-answer-requires c = (c.requires.1, c.requires.2)
-
-pub returns-then-mark-eq0 : goal.returns-then-mark-eq0
-returns-then-mark-eq0 c =
+pub returns-in-Ok : goal.returns-in-Ok
+returns-in-Ok c =
     let a = c.args in
-    let q = c.lay_replacement-answer.ensures in
-    drafted_replaced a.manner a.p.now (length a.store.now) (length a.work.now) a.draft.now c.lay_replacement-answer.new.out a.left.now a.at a.k c.lay_replacement-answer.result c.mark_of-mark.result c.end_of.result c.mark_of-mark.ensures c.if-mark-eq0.true c.end_of.ensures q.0 q.1
+    let q = rw c.in-Ok.is at c.lay_replacement-answer.ensures in
+    drafted_replaced a.manner a.p.now (length a.store.now) (length a.work.now) a.draft.now c.lay_replacement-answer.new.out a.left.now a.at a.k c.is_err.result c.in-Ok.end (c.is_err.ensures.value ∙ ap is_err c.in-Ok.is) q.0 q.1
 
-pub lay-requires : goal.lay-requires
-lay-requires c =
-    let room = c.requires.1 in
-    omega arith
-
-pub returns : goal.returns
-returns c =
+pub returns-in-Err : goal.returns-in-Err
+returns-in-Err c =
     let a = c.args in
-    drafted_typed a.manner a.p.now (length a.store.now) (length a.work.now) a.draft.now c.lay.new.out a.left.now a.at a.k c.lay_replacement-answer.result c.mark_of-mark.result c.lay.result c.lay_replacement-answer.new.out c.mark_of-mark.ensures c.if-mark-eq0.false c.lay_replacement-answer.ensures.0 c.lay_replacement-answer.auto.out c.lay.ensures.0 c.lay.ensures.1
+    let q = rw c.in-Err.is at c.lay_replacement-answer.ensures in
+    drafted_typed a.manner a.p.now (length a.store.now) (length a.work.now) a.draft.now c.lay.new.out a.left.now a.at a.k c.is_err.result c.in-Err.field-0 c.lay.result c.lay_replacement-answer.new.out (c.is_err.ensures.value ∙ ap is_err c.in-Err.is) q.0.0 q.0.1 c.lay_replacement-answer.auto.out c.lay.ensures.0 c.lay.ensures.1

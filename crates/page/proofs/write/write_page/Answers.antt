@@ -17,7 +17,7 @@ pub write_paragraph-at-requires : goal.write_paragraph-at-requires
 write_paragraph-at-requires c =
     let i = c.loop-manner.invariant in
     let b = c.next_break-e.ensures in
-    rw (i.0, i.1) ((writing_mark c.requires.1 i.3 c.next_break-e.result b.0 b.2).1, writing_room c.requires.1 i.3 c.next_break-e.result b.0 b.2, c.requires.2)
+    rw (i.0, i.1) ((writing_mark c.requires.1 i.3 c.next_break-e.result b.0 b.2).1, writing_room c.requires.1 i.3 c.next_break-e.result b.0 b.2)
 
 pub returns-then-e-document : goal.returns-then-e-document
 returns-then-e-document c =

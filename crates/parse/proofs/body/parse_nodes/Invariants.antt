@@ -5,9 +5,9 @@ use lib.ListN.{length}
 use Rattle.parse.proofs.BodyLaws.{BodyLoop}
 use Rattle.parse.proofs.body.parse_nodes.Given as goal
 
-abbrev pub invariant-loop-q : goal.invariant-loop-q
-invariant-loop-q l =
-    (length l.store ≡ length l.initial.store) × BodyLoop l.depth l.table l.s l.initial.store l.store l.q l.first l.last l.count
+abbrev pub invariant-loop-store : goal.invariant-loop-store
+invariant-loop-store l =
+    (length l.store ≡ length l.initial.store) × BodyLoop l.depth l.s l.initial.store l.store l.q l.nodes.first l.nodes.last l.nodes.count
 
-abbrev pub decreases-loop-q : goal.decreases-loop-q
-decreases-loop-q l = length l.s - l.q.cur.start
+abbrev pub decreases-loop-store : goal.decreases-loop-store
+decreases-loop-store l = length l.s - l.q.cur.start

@@ -1,11 +1,6 @@
--- `parser::environments::spells` meets its contract. The loop's invariant: the letters before the place i are those of the name before k.
-use Prim.Native.Nat.{◌-◌}
-use lib.ListN.{length}
+-- `parser::environments::spells` meets its contract. The loop's invariant: the letters before the place i are the part of the name that is compared.
 use Rattle.parser.proofs.EnvironmentLaws.{Comparing}
 use Rattle.parser.proofs.environments.spells.Given as goal
 
-abbrev pub invariant-loop-i : goal.invariant-loop-i
-invariant-loop-i l = Comparing l.t l.name l.i l.k
-
-abbrev pub decreases-loop-i : goal.decreases-loop-i
-decreases-loop-i l = length l.t - l.i
+abbrev pub invariant-loop-b : goal.invariant-loop-b
+invariant-loop-b l = Comparing l.t l.name l.i l.b-index

@@ -2,16 +2,17 @@
 use mathlib.Core.Path.{sym, ap}
 use lib.ListN.{length}
 use Rattle.text.proofs.EncodeLaws.{encode_1, encode_2, encode_3, encode_4}
+use native.Mathlib.Omega.{arith}
 use Rattle.text.proofs.put.code_point_len.Goals as goal
 
-pub returns-then-c-lt128 : goal.returns-then-c-lt128
-returns-then-c-lt128 c = sym (ap length (encode_1 _ c.if-c-lt128.true))
+pub returns-in-0-to-127 : goal.returns-in-0-to-127
+returns-in-0-to-127 c = sym (ap length (encode_1 c.args.c (omega arith)))
 
-pub returns-then-c-lt2048 : goal.returns-then-c-lt2048
-returns-then-c-lt2048 c = sym (ap length (encode_2 _ c.if-c-lt128.false c.if-c-lt2048.true))
+pub returns-in-128-to-2047 : goal.returns-in-128-to-2047
+returns-in-128-to-2047 c = sym (ap length (encode_2 c.args.c (omega arith) (omega arith)))
 
-pub returns-then-c-lt65536 : goal.returns-then-c-lt65536
-returns-then-c-lt65536 c = sym (ap length (encode_3 _ c.if-c-lt2048.false c.if-c-lt65536.true))
+pub returns-in-2048-to-65535 : goal.returns-in-2048-to-65535
+returns-in-2048-to-65535 c = sym (ap length (encode_3 c.args.c (omega arith) (omega arith)))
 
-pub returns-else-c-lt65536 : goal.returns-else-c-lt65536
-returns-else-c-lt65536 c = sym (ap length (encode_4 _ c.if-c-lt65536.false))
+pub returns-in_default : goal.returns-in_default
+returns-in_default c = sym (ap length (encode_4 c.args.c (omega arith)))

@@ -5,7 +5,4 @@ use Rattle.text.proofs.xml.reference.Goals as goal
 
 pub returns-in-Old : goal.returns-in-Old
 unfolding in_text
-returns-in-Old c = rw c.in-Old.is (record { escaped = λ some. absurd (some refl); itself = λ none. refl })
-
-pub returns-in-Strict : goal.returns-in-Strict
-returns-in-Strict c = rw c.in-Strict.is c.xml_reference.ensures
+returns-in-Old c = rw c.in-Old.is refl

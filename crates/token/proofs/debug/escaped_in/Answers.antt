@@ -10,7 +10,7 @@ returns-in-Old c = rw c.in-Old.is c.escaped_twice.ensures
 
 pub returns-in-38 : goal.returns-in-38
 returns-in-38 c =
-    let r = rw c.in-Strict.is at c.reference.ensures in
+    let r = rw (c.in-Strict.is, c.from.ensures) at c.reference.ensures in
     rw c.in-Strict.is (marked c.args.b c.reference.result c.in-38.is r)
 
 pub returns-in_default : goal.returns-in_default

@@ -1,33 +1,45 @@
--- `token::debug::put_name` meets its contract.
-use mathlib.Core.Path.{refl}
-use Rattle.std.specs.Prelude.{[], ◌∷◌}
-use Rattle.text.specs.Examples.{text_opens}
-use Rattle.text.specs.Xml.{xml_escape, xml_text}
-use Rattle.text.proofs.PutLaws.{room_as, puts_as}
-use Rattle.token.specs.Debug.{escapes, escape_by, escape, control}
-use Rattle.text.proofs.XmlLaws.{same_text}
-use Rattle.token.proofs.DebugLaws.{name_none, name_some}
-use native.Mathlib.Omega.{arith}
+use mathlib.Core.Path.{sym, ap, ◌∙◌}
+use Rattle.std.specs.Prelude.{◌+◌, drop, get_or}
+use borrow.Author.Tests.{eqb-true, eqb-false}
+use Rattle.text.specs.Xml.{in_text}
+use Rattle.text.proofs.PutLaws.{putting_none, putting_room, putting_more, putting_all, room_as, puts_as}
+use Rattle.token.specs.Debug.{escapes, escape_by, escape}
+use Rattle.token.proofs.DebugLaws.{twice_next, twice_none, nul_none, nul_some}
 use Rattle.token.proofs.debug.put_name.Goals as goal
 
-pub put-requires : goal.put-requires
-unfolding text_opens xml_escape xml_text escapes escape_by escape control
-put-requires c =
-    let none = name_none c.args.s.now c.args.a c.args.e c.if-a-e.true in
-    room_as (same_text c.args.dialect (escape (escape (0 ∷ []))) refl) (rw none at c.requires.2)
+pub put_byte-requires : goal.put_byte-requires
+put_byte-requires c =
+    let none = eqb-true _ _ (sym c.is_empty.ensures ∙ c.if-is_empty.true) in
+    room_as (ap (in_text c.args.dialect) (nul_none c.args.name.now none)) c.requires
 
-pub returns-then-a-e : goal.returns-then-a-e
-unfolding text_opens xml_escape xml_text escapes escape_by escape control
-returns-then-a-e c =
-    let none = name_none c.args.s.now c.args.a c.args.e c.if-a-e.true in
-    rw none (puts_as (same_text c.args.dialect (escape (escape (0 ∷ []))) refl) c.put.ensures)
+pub returns-then-is_empty : goal.returns-then-is_empty
+returns-then-is_empty c =
+    let none = eqb-true _ _ (sym c.is_empty.ensures ∙ c.if-is_empty.true) in
+    puts_as (ap (in_text c.args.dialect) (nul_none c.args.name.now none)) c.put_byte.ensures
 
-pub put_escaped-requires : goal.put_escaped-requires
-put_escaped-requires c =
-    let some = name_some c.args.s.now c.args.a c.args.e (omega (arith, c.if-a-e.false)) c.requires.1 in
-    (c.requires.0, c.requires.1, rw some at c.requires.2)
+pub loop-b-init : goal.loop-b-init
+loop-b-init c = putting_none c.args.out.now (in_text c.args.dialect (escape (escape c.args.name.now)))
+
+pub put_byte-requires-in-loop-b : goal.put_byte-requires-in-loop-b
+put_byte-requires-in-loop-b c =
+    let d = c.args.dialect in
+    let l = c.args.name.now in
+    let i = c.loop-b.b-index in
+    let some = nul_some l (eqb-false _ _ (sym c.is_empty.ensures ∙ c.if-is_empty.false)) in
+    putting_room (in_text d (escape (escape_by escapes (get_or l i 0)))) (in_text d (escape (escape (drop (i + 1) l)))) (rw some at c.requires)
+    (rw (twice_next d l i c.loop-b-test.true) at c.loop-b.invariant)
+
+pub loop-b-preserved : goal.loop-b-preserved
+loop-b-preserved c =
+    let d = c.args.dialect in
+    let l = c.args.name.now in
+    let i = c.loop-b.b-index in
+    let some = nul_some l (eqb-false _ _ (sym c.is_empty.ensures ∙ c.if-is_empty.false)) in
+    putting_more (in_text d (escape (escape_by escapes (get_or l i 0)))) (in_text d (escape (escape (drop (i + 1) l)))) (rw some at c.requires)
+    (rw (twice_next d l i c.loop-b-test.true) at c.loop-b.invariant) c.put_byte-in-loop-b.ensures
 
 pub returns : goal.returns
 returns c =
-    let some = name_some c.args.s.now c.args.a c.args.e (omega (arith, c.if-a-e.false)) c.requires.1 in
-    rw some c.put_escaped.ensures
+    let l = c.args.name.now in
+    let some = nul_some l (eqb-false _ _ (sym c.is_empty.ensures ∙ c.if-is_empty.false)) in
+    rw some (putting_all (rw (twice_none c.args.dialect l c.loop-b.b-index c.loop-b-test.false) at c.loop-b.invariant))

@@ -1,7 +1,0 @@
--- `vectors::compare::alike` meets its contract.
-use Rattle.std.proofs.lemmas.Slice.Eq.{slice_eq-Decides}
-use Rattle.std.proofs.lemmas.Bool.Decides.{Decides-eqb}
-use Rattle.vectors.proofs.compare.alike.Goals as goal
-
-pub returns : goal.returns
-returns c = (slice_eq-Decides Decides-eqb _ _ _ c.eq.ensures).0

@@ -1,0 +1,10 @@
+-- `vectors::packed::Filled::unpack` meets its contract.
+use lib.ListN.{length}
+use Prim.Native.Nat.{◌≤◌}
+use Rattle.vectors.proofs.packed.Filled.unpack.Given as goal
+
+abbrev pub invariant-loop-b : goal.invariant-loop-b
+invariant-loop-b l = (length l.line.now ≤ length l.initial.line.now) × (l.initial.self.end ≤ l.self.end)
+
+abbrev pub decreases-loop-b : goal.decreases-loop-b
+decreases-loop-b l = length l.line.now
