@@ -174,7 +174,7 @@ def table_spec(arms, forms):
 CODE_SPEC = Template("""\
 -- The codes of the command table: the highest bit marks a code, the next seven are a form, and the form makes a token of the other 24.
 -- Assumes nothing.
-use Rattle.std.specs.Prelude.{ℕ, ◌/◌, ◌%◌, List, [], ◌∷◌, Some, None, slice_index_or}
+use Rattle.std.specs.Prelude.{ℕ, ◌/◌, ◌%◌, List, [], ◌∷◌, slice_index_or, Some, None}
 use Rattle.attribute.specs.declared.Variant.TheVariants.{$variant}
 use Rattle.attribute.specs.declared.Accent.TheVariants.{$accent}
 use Rattle.attribute.specs.declared.DisplayStyle.TheVariants.{$style}
@@ -247,7 +247,8 @@ pub fn word_at(i: usize) -> u32
     TABLE[i]
 }
 
-// The token that a code stands for: seven bits behind the mark are its form, the rest is what the form holds.
+// The token that a code stands for: seven bits behind the mark are its form, the rest is what the form holds. The table has no form but those
+// listed, and for any other the definition has EOF too.
 pub fn token_of(code: u32) -> Token
     ensures { result ≡ token_of code }
 {

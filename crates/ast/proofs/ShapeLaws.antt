@@ -1,10 +1,14 @@
 -- The node of a node's numbers is the node, and the tags that have no role of their own.
 -- Assumes nothing.
-use mathlib.Core.Path.{◌≡◌, refl, ap}
+use mathlib.Core.Path.{◌≡◌, refl, sym, ap, ◌∙◌}
+use mathlib.Core.Bool.{true, false}
 use mathlib.Core.List.{List, [], ◌∷◌}
-use Prim.Native.Nat.{ℕ}
+use Prim.Native.Nat.{ℕ, ◌<◌, ◌≤◌}
+use borrow.Author.Tests.{le-leb, lt-leb}
+use lib.Dec.{leb}
 use lib.ListN.{get_or, get_or-eq_default}
 use Rattle.text.proofs.Cases.{by_order}
+use Rattle.text.proofs.Tabled.{each}
 use Rattle.text.proofs.Keys.{NoneOf, elsewhere}
 use Rattle.attribute.proofs.CodeLaws.{variant_back, accent_back, thickness_back, align_back, display_back}
 use Rattle.token.specs.declared.Undefined.{Undefined}
@@ -15,7 +19,7 @@ use Rattle.ast.specs.declared.Two.{Two}
 use Rattle.ast.specs.declared.Three.{Three}
 use Rattle.ast.specs.declared.Shape.{Shape}
 use Rattle.ast.specs.declared.Role.{Role}
-use Rattle.ast.specs.Shape.{numbers, fields, shapes, matrix_shape, shape_of, role_of}
+use Rattle.ast.specs.Shape.{numbers, fields, shapes, matrix_shape, shape_of, role_of, is_matrix}
 
 pub shape_back : (k : Shape) → shape_of (fields k) ≡ k
 unfolding shape_of shapes
@@ -67,3 +71,18 @@ other_role tag v x y h =
     by_order tag 36
     (λ lt. elsewhere (λ n. role_of (get_or shapes n matrix_shape v x y)) Role.Other roled 36 refl tag lt h)
     (λ ge. ap (λ g. role_of (g v x y)) (get_or-eq_default shapes matrix_shape ge))
+
+-- the tags below 36 are no matrix's, all others are
+pub no_matrix : (tag v x y : ℕ) → tag < 36 → is_matrix (shape_of (numbers tag v x y)) ≡ false
+unfolding shape_of shapes
+no_matrix tag v x y lt = each (λ n. is_matrix (get_or shapes n matrix_shape v x y)) (λ n. false) 36 refl tag lt
+
+pub a_matrix : (tag v x y : ℕ) → 36 ≤ tag → is_matrix (shape_of (numbers tag v x y)) ≡ true
+unfolding shape_of shapes
+a_matrix tag v x y ge = ap (λ g. is_matrix (g v x y)) (get_or-eq_default shapes matrix_shape ge)
+
+pub matrix_tag : (tag v x y : ℕ) → leb 36 tag ≡ is_matrix (shape_of (numbers tag v x y))
+matrix_tag tag v x y =
+    by_order tag 36
+    (λ lt. lt-leb 36 tag lt ∙ sym (no_matrix tag v x y lt))
+    (λ ge. le-leb 36 tag ge ∙ sym (a_matrix tag v x y ge))

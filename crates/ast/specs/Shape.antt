@@ -1,6 +1,6 @@
 -- What node a record is, as numbers, and the node of such numbers.
 -- Assumes nothing.
-use Rattle.std.specs.Prelude.{List, [], ◌∷◌, ℕ, ◌^◌, ◌<◌, get_or}
+use Rattle.std.specs.Prelude.{Bool, true, false, List, [], ◌∷◌, ℕ, ◌^◌, ◌<◌, get_or}
 use Rattle.attribute.specs.Codes.{variant_code, variant_of, accent_code, accent_of, thickness_code, thickness_of, align_code, align_of, display_code, display_of}
 use Rattle.token.specs.declared.Undefined.{Undefined}
 use Rattle.ast.specs.declared.Stretched.{Stretched}
@@ -138,6 +138,14 @@ role_of (Shape.Two k) = Role.Other
 role_of (Shape.Three k) = Role.Other
 role_of (Shape.Row n) = Role.Row n
 role_of (Shape.Matrix align n) = Role.Other
+
+abbrev pub is_matrix : Shape → Bool
+is_matrix (Shape.Leaf l) = false
+is_matrix (Shape.One k) = false
+is_matrix (Shape.Two k) = false
+is_matrix (Shape.Three k) = false
+is_matrix (Shape.Row n) = false
+is_matrix (Shape.Matrix align n) = true
 
 abbrev pub fields_of : Record → Fields
 fields_of r = numbers r.tag r.attr r.x r.y

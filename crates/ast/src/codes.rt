@@ -1,6 +1,7 @@
-// What node a record is, to and from the numbers that it holds.
+// What node a record is, to and from the numbers that it holds. The tags are the bytes of the lent store, and stand here once each way. Who
+// asks a record's kind asks its tag: by `Shape` it was measured slower (docs/DECISIONS.md, 74).
 ghost use Rattle.std.specs.Prelude.{◌≡◌, ◌^◌, ◌<◌};
-ghost use Rattle.ast.specs.Shape.{numbers, leaf_fields, one_fields, two_fields, three_fields, fields, shape_of, role_of, fields_of, Placed};
+ghost use Rattle.ast.specs.Shape.{numbers, leaf_fields, one_fields, two_fields, three_fields, fields, shape_of, role_of, is_matrix, fields_of, Placed};
 
 use crate::{Fields, Leaf, One, Record, Role, Shape, Stretched, Three, Two};
 use attribute::{Accent, ColumnAlign, DisplayStyle, LineThickness, Variant};
@@ -196,4 +197,11 @@ pub fn role_of(r: Record) -> Role
         35 => Role::Row(x),
         _ => Role::Other,
     }
+}
+
+// Whether a record is a matrix, by its tag alone.
+pub fn is_matrix(r: Record) -> bool
+    ensures { result ≡ is_matrix (shape_of (fields_of r)) }
+{
+    36 <= r.tag
 }

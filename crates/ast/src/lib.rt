@@ -12,6 +12,9 @@
 //     bytes 14..18   the place after the last in the body, or the number of a second text
 //     bytes 18..20   unused
 //     bytes 20..24   kept free for a span
+//
+// The store is memory that C lends and there is no heap, so a record names others by their indices. Each caller lends the store on, so each
+// contract says how long it is.
 #![tactic(auto)]
 
 pub mod codes;
@@ -124,7 +127,7 @@ pub struct Fields {
 
 // What becomes of a record where the records are added: it adds what it is, or what it is under a slash, or the finished tree does not hold
 // it.
-#[derive(Clone, Copy)]
+#[derive(Clone, Copy, PartialEq, Eq)]
 pub enum Fate {
     Counted,
     Slashed,

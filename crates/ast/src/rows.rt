@@ -4,7 +4,8 @@ ghost use Rattle.ast.specs.Appended.{Appends};
 
 use crate::store::set_next;
 
-// The nodes of a row that are linked so far: the first of them, the last, and how many they are.
+// The nodes of a row that are linked so far: the first of them, the last, and how many they are. While they are none the two indices mean
+// nothing; in an `Option` they would be told by the count once more, and the row's record holds an index in any case.
 #[derive(Clone, Copy, Default)]
 pub struct Linked {
     pub first: usize,

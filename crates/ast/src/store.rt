@@ -5,7 +5,8 @@ ghost use Rattle.ast.specs.Change.{with_next, with_attr};
 
 use crate::Record;
 
-// The number in two bytes.
+// The number in two bytes. In std no trait has `from_le_bytes` or `to_le_bytes`, and the crates use std alone: so two and four bytes are no
+// instances of one function, here and where they are put.
 fn get_two(store: &[u8], o: usize) -> usize
     requires { o + 2 ≤ length store.now }
     ensures { (result ≡ two store.now o) × (result < 65536) }
@@ -13,7 +14,7 @@ fn get_two(store: &[u8], o: usize) -> usize
     usize::from(u16::from_le_bytes([store[o], store[o + 1]]))
 }
 
-// The number in four bytes. No trait has `from_le_bytes`, so that two and four bytes are no instances of one function.
+// The number in four bytes.
 fn get_four(store: &[u8], o: usize) -> u32
     requires { o + 4 ≤ length store.now }
     ensures { result ≡ four store.now o }

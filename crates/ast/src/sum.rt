@@ -1,5 +1,6 @@
 // What the records tell as they lie in the store: which of them the finished tree does not hold, and the marks of a matrix. A record's
-// kind is asked by its tag, so that reading a node has one caller, the printer, where it costs nothing.
+// kind is asked by its tag, so that reading a node has one caller, the printer, where it costs nothing: with a second it was measured slower
+// (docs/DECISIONS.md, 74).
 ghost use Rattle.std.specs.Prelude.{◌≡◌, ◌+◌, ◌*◌, ◌≤◌, ◌<◌, length};
 ghost use Rattle.ast.specs.Shape.{fields_of, shape_of, role_of};
 ghost use Rattle.ast.specs.Held.{is_row};
@@ -40,7 +41,8 @@ pub fn fate_at(store: &[u8], top: usize, i: usize) -> Fate
     }
 }
 
-// The marks among n nodes, each the next of the one before, from the index a on.
+// The marks among n nodes, each the next of the one before, from the index a on. The records are linked and n is their number, so there is
+// no slice of them to go through.
 pub fn marks(store: &[u8], n: u32, a: usize) -> Marks
     requires { Chain store.now n a }
     ensures { (result.ampersands ≡ cells (marks 1 0) store.now n a) × (result.lines ≡ cells (marks 0 1) store.now n a) }

@@ -8,7 +8,7 @@ use crate::store::{get_next, get_record, set_attr};
 use attribute::Variant;
 
 // Gives each letter of the tree at an index the variant, through rows inside rows; no record is made. A row's nodes lie before it,
-// so that `left`, which is above the index, falls.
+// so that `left`, which is above the index, falls. They are linked and n is their number, so there is no slice of them to go through.
 pub fn set_variant(store: &mut [u8], i: usize, v: Variant, left: usize)
     requires { Stored store.old i × (i < left) }
     ensures { Sets store.old store.new i v }

@@ -1,4 +1,5 @@
-// The attributes as numbers, as a record holds them; a number that no attribute has reads as the last one.
+// The attributes as numbers, as a record holds them; a number that no attribute has reads as the last one. A cast gives the number of a case; the
+// way back is a match, since no cast makes a case of a number.
 ghost use Rattle.std.specs.Prelude.{◌≡◌};
 ghost use Rattle.attribute.specs.Codes.{variant_code, variant_of, accent_code, accent_of, thickness_code, thickness_of, align_code, align_of, display_code, display_of};
 

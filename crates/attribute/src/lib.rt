@@ -1,4 +1,5 @@
-// The attributes of MathML elements: the Rust's attribute.rs, and `DisplayStyle` of its lib.rs.
+// The attributes of MathML elements: the Rust's attribute.rs, and `DisplayStyle` of its lib.rs. Each text is an arm of a match, as there: an array
+// of texts by number would say nowhere which text is whose.
 #![tactic(auto)]
 
 mod codes;

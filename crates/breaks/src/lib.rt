@@ -1,4 +1,5 @@
-// The breaks of a document: where the next one begins, where it ends, and how many paragraphs there are between them.
+// The breaks of a document: where the next one begins, where it ends, and how many paragraphs there are between them. Each function is given the
+// document and a place in it, and not what stands behind the place, so that each answer is a place of the document.
 #![tactic(auto)]
 
 ghost use Rattle.std.specs.Prelude.{◌≡◌, ◌&&◌, ◌≤◌, length};

@@ -1,4 +1,4 @@
-// The dollars of a document.
+// The dollars of a document. A search is given a text and a place in it, as in `search`, so that each answer is a place of the whole text.
 #![tactic(auto)]
 
 pub mod search;

@@ -1,5 +1,6 @@
 // The search for a byte, and for two alike, by words of eight bytes. It is given a text and a place in it, and not what stands behind the
-// place, so that each answer is a place of the whole text.
+// place, so that each answer is a place of the whole text: `position` counts from where it begins, and its caller would add that again. The search
+// by words is written here, and proved against the definition, as is all of the translator; must-fail has wrong versions of it.
 ghost use Rattle.std.specs.Prelude.{◌≡◌, ◌≤◌, length, drop};
 ghost use Rattle.text.specs.Any.{contains};
 ghost use Rattle.text.specs.Put.{digits};

@@ -1,4 +1,5 @@
-// Replacement: the Rust's `replace`, in two passes over a document.
+// Replacement: the Rust's `replace`, in two passes over a document. The manner, the text and the buffers are handed on one by one: the work
+// buffer and the draft are what one pass writes and what another reads, and the store and the output are lent anew for each body.
 ghost use Rattle.std.specs.Prelude.{◌≡◌, true, ℕ, ◌+◌, ◌*◌, ◌^◌, ◌≤◌, ◌<◌, length};
 ghost use Rattle.latex2mathml.specs.declared.Manner.{Manner};
 ghost use Rattle.latex2mathml.specs.Replace.{translate_body, first_pass, second_pass, replacement};
@@ -12,10 +13,12 @@ use attribute::DisplayStyle;
 use dollars::{Delimiter, first_mark, is_prose, next_mark, odd_marks, three_dollars};
 use error::Refusal;
 use parse::body::parse;
+use print::Source;
 use text::put::put;
 use text::{has_nul, well_formed};
 
-// Lays a piece at a place, or counts it where it does not fit; the answer is the place behind it.
+// Lays a piece at a place, or counts it where it does not fit; the answer is the place behind it. The place may lie behind the buffer's end,
+// where it is only counted, so the two are no `Output` (docs/DECISIONS.md, 90).
 pub fn lay(piece: &[u8], out: &mut [u8], at: usize) -> usize
     requires { at + length piece.now < 2 ^ 64 }
     ensures { (result ≡ at + length piece.now) × Laid out.old out.new at piece.now }
@@ -28,7 +31,8 @@ pub fn lay(piece: &[u8], out: &mut [u8], at: usize) -> usize
     }
 }
 
-// Lays the markup of a body at a place, or counts it where it does not fit; what is sure to fit is not measured first.
+// Lays the markup of a body at a place, or counts it where it does not fit; what is sure to fit is not measured first. `latex_to_mathml`
+// refuses what does not fit, and tests the bytes of the body, which for the bodies of a document were tested with it.
 fn lay_body(
     manner: Manner,
     s: &[u8],
@@ -46,18 +50,23 @@ fn lay_body(
     if refuses(dialect, s) {
         return Err(Refusal::ForbiddenCharacter);
     }
+    let source = Source {
+        dialect,
+        body: s,
+        store,
+    };
     if sure {
-        return Ok(put_math(dialect, s, display, store, nodes, out, at));
+        return Ok(put_math(&source, display, nodes, out, at));
     }
-    let end = at + math_len(dialect, s, display, store, nodes.made);
+    let end = at + math_len(&source, display, nodes.made);
     if out.len() < end {
         return Ok(end);
     }
-    put_math(dialect, s, display, store, nodes, out, at);
+    put_math(&source, display, nodes, out, at);
     Ok(end)
 }
 
-// How the bodies of a pass are displayed.
+// How the bodies of a pass are displayed; neither type is of this crate, so it is no `From`.
 fn display_of(delimiter: Delimiter) -> DisplayStyle
     ensures { result ≡ display_of delimiter }
 {
@@ -68,7 +77,8 @@ fn display_of(delimiter: Delimiter) -> DisplayStyle
 }
 
 // Lays a text with the bodies between its marks translated; the marks are taken first with second, third with fourth. The same marks are gone
-// through where the text is measured and where it is sure to fit, so `sure` is handed on to each body.
+// through where the text is measured and where it is sure to fit, so `sure` is handed on to each body: a closure for the body would take the
+// store and the output at every turn.
 fn substitute(
     manner: Manner,
     s: &[u8],

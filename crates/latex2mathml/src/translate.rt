@@ -30,7 +30,7 @@ pub(crate) fn refuses(dialect: Dialect, s: &[u8]) -> bool
     }
 }
 
-// Puts the opening tag of the wrapper.
+// Puts the opening tag of the wrapper, whose length stands in `wrapper_len`: lengths are apart from printing (docs/DECISIONS.md, 91).
 fn put_opening(display: DisplayStyle, out: &mut Output)
     requires { Room out.old (length (opening display)) }
     ensures { Puts out.old out.new (opening display) }
@@ -40,26 +40,20 @@ fn put_opening(display: DisplayStyle, out: &mut Output)
     out.put(b"\">");
 }
 
-// Puts the markup of the nodes of a body in its wrapper at a place, and answers the place behind it.
+// Puts the markup of the nodes of a body in its wrapper at a place, and answers the place behind it. Its callers have a buffer and a place,
+// so the output is made here.
 pub(crate) fn put_math(
-    dialect: Dialect,
-    s: &[u8],
+    source: &Source,
     display: DisplayStyle,
-    store: &[u8],
     nodes: ParsedNodes,
     out: &mut [u8],
     at: usize,
 ) -> usize
-    requires { (nodes.count < 2 ^ 32) × PrintableAt (NodesAt s.now store.now nodes.made nodes.first nodes.count) (λ ns. in_math display (print_all dialect s.now ns)) out.old at }
-    ensures { PrintsAt (NodesAt s.now store.now nodes.made nodes.first nodes.count) (λ ns. in_math display (print_all dialect s.now ns)) out.old out.new at result }
+    requires { (nodes.count < 2 ^ 32) × PrintableAt (NodesAt source.now.body.now source.now.store.now nodes.made nodes.first nodes.count) (λ ns. in_math display (print_all source.now.dialect source.now.body.now ns)) out.old at }
+    ensures { PrintsAt (NodesAt source.now.body.now source.now.store.now nodes.made nodes.first nodes.count) (λ ns. in_math display (print_all source.now.dialect source.now.body.now ns)) out.old out.new at result }
 {
     let mut output = Output::new(out, at);
     put_opening(display, &mut output);
-    let source = Source {
-        dialect,
-        body: s,
-        store,
-    };
     source.print_nodes(
         Place::Plain,
         nodes.first,
@@ -82,21 +76,10 @@ fn wrapper_len(display: DisplayStyle) -> usize
 }
 
 // The length of the markup of the nodes of the body that fill the first `made` records, in its wrapper.
-pub(crate) fn math_len(
-    dialect: Dialect,
-    s: &[u8],
-    display: DisplayStyle,
-    store: &[u8],
-    made: usize,
-) -> usize
-    requires { Measurable s.now store.now made }
-    ensures { MathLong dialect display s.now store.now made result }
+pub(crate) fn math_len(source: &Source, display: DisplayStyle, made: usize) -> usize
+    requires { Measurable source.now.body.now source.now.store.now made }
+    ensures { MathLong source.now.dialect display source.now.body.now source.now.store.now made result }
 {
-    let source = Source {
-        dialect,
-        body: s,
-        store,
-    };
     wrapper_len(display) + source.measure(made).length
 }
 
@@ -124,11 +107,16 @@ pub fn latex_to_mathml(
     if refuses(dialect, s) {
         return Err(Refusal::ForbiddenCharacter);
     }
-    let length = math_len(dialect, s, display, store, nodes.made);
+    let source = Source {
+        dialect,
+        body: s,
+        store,
+    };
+    let length = math_len(&source, display, nodes.made);
     if out.len() < length {
         return Err(Refusal::OutputTooSmall);
     }
-    put_math(dialect, s, display, store, nodes, out, 0);
+    put_math(&source, display, nodes, out, 0);
     Ok(length)
 }
 

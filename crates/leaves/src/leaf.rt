@@ -1,4 +1,5 @@
-// The printer: `Display` of the Rust's `Node`.
+// The printer: `Display` of the Rust's `Node`. The dialect is read and the output is written to, so the two are no struct (docs/DECISIONS.md,
+// 95).
 ghost use Rattle.std.specs.Prelude.{◌≡◌, ◌++◌, length};
 ghost use Rattle.text.specs.Text.{bytes};
 ghost use Rattle.text.specs.Put.{Room, Puts};
@@ -27,7 +28,8 @@ pub(crate) fn fixed_text(dialect: Dialect, t: u32) -> &'static [u8]
     text_of(text_in(dialect, t))
 }
 
-// Puts a text between two pieces.
+// Puts a text between two pieces. Here and in the two below what stands between differs in kind: bytes, a character, and letters that are
+// read again.
 pub(crate) fn put_in(front: &[u8], text: &[u8], back: &[u8], out: &mut Output)
     requires { Room out.old (length (front.now ++ text.now ++ back.now)) }
     ensures { Puts out.old out.new (front.now ++ text.now ++ back.now) }
@@ -167,7 +169,8 @@ fn put_sized_paren(dialect: Dialect, z: u32, t: u32, out: &mut Output)
     out.put(sized_end(dialect));
 }
 
-// Puts an ampersand, which begins a cell of a matrix.
+// Puts an ampersand, which begins a cell of a matrix. One function for it and for a new line would take the leaf and both of its texts, and
+// a law that they belong together.
 fn put_ampersand(dialect: Dialect, place: Place, out: &mut Output)
     requires { Room out.old (length (at_place dialect place (leaf Leaf.Ampersand) (parse_error dialect (bytes "Ampersand")))) }
     ensures { Puts out.old out.new (at_place dialect place (leaf Leaf.Ampersand) (parse_error dialect (bytes "Ampersand"))) }
@@ -189,7 +192,7 @@ fn put_new_line(dialect: Dialect, place: Place, out: &mut Output)
     }
 }
 
-// Puts the error text of a token that is no node.
+// Puts the error text of a token that is no node, piece by piece: `fmt` promises nothing of the bytes that it writes.
 fn put_undefined(dialect: Dialect, s: &[u8], u: Undefined, out: &mut Output)
     requires { Inside (length s.now) u × Room out.old (length (undefined_markup dialect s.now u)) }
     ensures { Puts out.old out.new (undefined_markup dialect s.now u) }

@@ -1,11 +1,13 @@
-// The lengths of what is printed, by the numbers of a record: one match gives constants and nothing is put.
+// The lengths of what is printed, by the numbers of a record: one match gives constants and nothing is put. By a `Shape` it was measured
+// slower (docs/DECISIONS.md, 74). Of the places only that under a slash changes a length here, so `slashed` stands for `Place`: what a mark
+// of a matrix prints in a cell is counted by `print::measure`.
 ghost use Rattle.std.specs.Prelude.{◌≡◌, ◌≤◌, length};
 ghost use Rattle.token.specs.Debug.{Inside};
 ghost use Rattle.ast.specs.declared.Leaf.{Leaf};
 ghost use Rattle.ast.specs.Tree.{leaf};
 ghost use Rattle.ast.specs.Shape.{shape_of};
 ghost use Rattle.ast.specs.Inside.{ShapeInside};
-ghost use Rattle.markup.specs.Print.{operator_text, variant_text, letter_markup, operator_markup, letter_text, undefined_markup, align_text, display_text, at_place};
+ghost use Rattle.markup.specs.Print.{operator_text, variant_text, letter_markup, operator_markup, undefined_markup, align_text, display_text, at_place};
 ghost use Rattle.markup.specs.Own.{under, own_text, own_errors};
 
 use crate::leaf::{fixed_text, sized_end};
@@ -25,7 +27,7 @@ fn variant_len(v: Variant) -> usize
     15 + v.name().len()
 }
 
-// .. of a matrix's alignment.
+// .. of a matrix's alignment, whose text is a function of `print`, which stands above this crate.
 fn align_len(dialect: Dialect, align: ColumnAlign) -> usize
     ensures { result ≡ length (align_text dialect align) }
 {
@@ -38,7 +40,7 @@ fn align_len(dialect: Dialect, align: ColumnAlign) -> usize
     }
 }
 
-// .. of whether a style is that of a block.
+// .. of whether a style is that of a block: no function gives its text by itself.
 fn display_len(d: DisplayStyle) -> usize
     ensures { result ≡ length (display_text d) }
 {
@@ -81,14 +83,6 @@ fn operator_len(dialect: Dialect, slashed: bool, c: u32) -> usize
     9 + operator_text_len(dialect, c)
 }
 
-// .. of the letters of a part of the body, which are read again.
-fn letter_text_len(dialect: Dialect, s: &[u8], a: usize, e: usize) -> usize
-    requires { (a ≤ e) × (e ≤ length s.now) × (length s.now ≤ 4096) }
-    ensures { result ≡ length (letter_text dialect s.now a e) }
-{
-    letters_len(dialect, &s[a..e])
-}
-
 // .. of the error text of a token that is no node.
 fn undefined_len(dialect: Dialect, s: &[u8], u: Undefined) -> usize
     requires { Inside (length s.now) u × (length s.now ≤ 4096) }
@@ -111,7 +105,7 @@ pub fn own_len(dialect: Dialect, slashed: bool, s: &[u8], f: Fields) -> usize
         1 => letter_len(dialect, slashed, x, Variant::from(attr)),
         2 => operator_len(dialect, slashed, x),
         3 => 9 + fixed_text(dialect, x).len(),
-        4 => 9 + letter_text_len(dialect, s, x as usize, y as usize),
+        4 => 9 + letters_len(dialect, &s[x as usize..y as usize]),
         5 => 20 + width_of(x).len(),
         6 => 25 + operator_text_len(dialect, x),
         7 => 25 + fixed_text(dialect, x).len(),
@@ -121,7 +115,7 @@ pub fn own_len(dialect: Dialect, slashed: bool, s: &[u8], f: Fields) -> usize
             + fixed_text(dialect, x).len()
             + fixed_text(dialect, y).len()
             + sized_end(dialect).len(),
-        10 => 15 + letter_text_len(dialect, s, x as usize, y as usize),
+        10 => 15 + letters_len(dialect, &s[x as usize..y as usize]),
         11 => 39,
         12 => 37,
         13 => undefined_len(dialect, s, Undefined::EOF),

@@ -31,6 +31,9 @@ none_of (k ∷ ks) b h e =
     (λ t. (none_of ks b h (rw (t, no_letters) at e), λ q. absurd (false≢true (sym t ∙ ap is_alphabetic (sym q) ∙ h))))
 
 module _ (b : ℕ) (h : is_alphabetic b ≡ true) where
+  pub no_mark : NoneOf marks b
+  no_mark = none_of marks b h refl
+
   pub bounds : (65 ≤ b) × (b ≤ 122)
   bounds =
       by_test (leb 97 b && leb b 122)
@@ -62,7 +65,7 @@ module _ (b : ℕ) (h : is_alphabetic b ≡ true) where
   alphabetic_token at l =
       let high = bounds.1 in
       rw (no_whitespace, run, add-zero)
-      (sym (token_letter at (b ∷ l) (record { code = b; width = 1 }) Variant.Italic true (sym (ascii_point b l (omega arith))) (none_of marks b h refl) no_digit h refl))
+      (sym (token_letter at (b ∷ l) (record { code = b; width = 1 }) Variant.Italic true (sym (ascii_point b l (omega arith))) no_mark no_digit h refl))
 
 -- .. at a place of a body, and of a part of it
 pub letter_at : (s : List ℕ) (at : ℕ) → at < length s → is_alphabetic (get_or s at 0) ≡ true

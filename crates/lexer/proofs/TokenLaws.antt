@@ -2,8 +2,9 @@
 -- Assumes nothing.
 use mathlib.Core.Path.{◌≡◌, refl, sym, ◌∙◌, ap}
 use mathlib.Core.Bool.{Bool, true, false}
-use mathlib.Core.List.{List, [], ◌∷◌}
-use Prim.Native.Nat.{ℕ, ◌+◌, ◌<◌}
+use mathlib.Core.List.{List, [], ◌∷◌, ◌++◌}
+use mathlib.Core.Logic.{◌⊎◌, inl, inr}
+use Prim.Native.Nat.{ℕ, ◌+◌, ◌-◌, ◌≤◌, ◌<◌}
 use native.Mathlib.Omega.{arith}
 use lib.Dec.{eqb}
 use lib.ListN.{length, drop, drop_of_length-le}
@@ -13,6 +14,7 @@ use Rattle.text.specs.Utf8.{code_point}
 use Rattle.text.proofs.Utf8Laws.{ascii_point}
 use Rattle.text.proofs.Cases.{by_test, by_order, never}
 use Rattle.text.proofs.Keys.{among, NoneOf, outside}
+use Rattle.text.proofs.Tabled.{tab, each}
 use Rattle.attribute.specs.declared.Variant.{Variant}
 use Rattle.token.specs.declared.Token.{Token}
 use Rattle.token.specs.Texts.{text}
@@ -112,10 +114,55 @@ unlisted ks (q ∷ qs) c all none =
     (unlisted ks qs c (rw (listed, here) at all) none))
     (λ away. let z : ◌≡◌ {A = Bool} false true = rw (listed, away) at all in never (cc))
 
--- the characters that are no letters and no digits, those of the lexer's decision from its last arm to its first
+-- an operator is its character, where that holds of each from `low` on
+pub token_operator : (at : ℕ) (l : List ℕ) (p : CodePoint) → p ≡ code_point l → (low n : ℕ)
+    → tab (λ i. of_character punctuation (low + i)) n ≡ tab (λ i. Token.Operator (low + i)) n
+    → low ≤ p.code → p.code < low + n → (p.code ≡ 58 → ⊥) → (p.code ≡ 92 → ⊥) → is_digit p.code ≡ false
+    → lexeme (Token.Operator p.code) at (at + p.width) ≡ token_at at l
+token_operator at l p here low n same from to other back digit =
+    let c = p.code in
+    let place : low + (c - low) ≡ c = omega arith in
+    let e = each (λ i. of_character punctuation (low + i)) (λ i. Token.Operator (low + i)) n same (c - low) (omega arith) in
+    let is : of_character punctuation c ≡ Token.Operator c = rw place at e in
+    rw (← is) (token_character at l p here c refl (ne_eqb c 58 other) (ne_eqb c 92 back) digit)
+
+-- the operators but the colon
+abbrev pub operators : List ℕ
+operators = 33 ∷ 39 ∷ 42 ∷ 43 ∷ 44 ∷ 45 ∷ 46 ∷ 47 ∷ 59 ∷ 60 ∷ 61 ∷ 62 ∷ []
+
+-- the characters that are no letters, no digits and none of those, as the lexer's decision has them from its last arm to its first
+abbrev pub singles : List ℕ
+singles = 92 ∷ 58 ∷ 0 ∷ 38 ∷ 94 ∷ 95 ∷ 124 ∷ 93 ∷ 91 ∷ 125 ∷ 123 ∷ 41 ∷ 40 ∷ []
+
 abbrev pub marks : List ℕ
-marks =
-    92 ∷ 58 ∷ 0 ∷ 38 ∷ 94 ∷ 95 ∷ 62 ∷ 60 ∷ 33 ∷ 47 ∷ 42 ∷ 45 ∷ 43 ∷ 124 ∷ 93 ∷ 91 ∷ 125 ∷ 123 ∷ 41 ∷ 40 ∷ 39 ∷ 46 ∷ 44 ∷ 59 ∷ 61 ∷ []
+marks = 92 ∷ 58 ∷ 0 ∷ 38 ∷ 94 ∷ 95 ∷ 124 ∷ 93 ∷ 91 ∷ 125 ∷ 123 ∷ 41 ∷ 40 ∷ operators
+
+-- what the decision's arms before `_` hand over: the character is none of the keys, nor of those before
+abbrev pub Past : Type 0 → List ℕ → ℕ → Type 0
+Past B [] c = B
+Past B (k ∷ ks) c = Past B ks c × (c ≡ k → ⊥)
+
+past_each : (B : Type 0) (ks ms : List ℕ) (c : ℕ) → (B → NoneOf ms c) → Past B ks c → NoneOf (ks ++ ms) c
+past_each B [] ms c f h = f h
+past_each B (k ∷ ks) ms c f h = (past_each B ks ms c f h.0, h.1)
+
+abbrev pub Before : ℕ → Type 0
+Before c = Past (Unit {0} × (((c ≡ 33) ⊎ (c ≡ 39)) → ⊥)) singles c
+
+low_operators : (c : ℕ) → c < 42 → (((c ≡ 33) ⊎ (c ≡ 39)) → ⊥) → NoneOf operators c
+low_operators c low h =
+    ((((((((((((tt, (λ e. omega arith)), (λ e. omega arith)), (λ e. omega arith)), (λ e. omega arith)), (λ e. omega arith)), (λ e. omega arith)), (λ e. omega arith)), (λ e. omega arith)), (λ e. omega arith)), (λ e. omega arith)), (λ e. h (inr e))), (λ e. h (inl e)))
+
+high_operators : (c : ℕ) → 63 ≤ c → NoneOf operators c
+high_operators c high =
+    ((((((((((((tt, (λ e. omega arith)), (λ e. omega arith)), (λ e. omega arith)), (λ e. omega arith)), (λ e. omega arith)), (λ e. omega arith)), (λ e. omega arith)), (λ e. omega arith)), (λ e. omega arith)), (λ e. omega arith)), (λ e. omega arith)), (λ e. omega arith))
+
+-- a character below the operators or above them that no arm has is no mark
+pub low_rest : (c : ℕ) → Before c → c < 42 → NoneOf marks c
+low_rest c h low = past_each _ singles operators c (λ b. low_operators c low b.1) h
+
+pub high_rest : (c : ℕ) → Before c → 63 ≤ c → NoneOf marks c
+high_rest c h high = past_each _ singles operators c (λ b. high_operators c high) h
 
 all_marks : listed marks punctuation ≡ true
 unfolding punctuation

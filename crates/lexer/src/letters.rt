@@ -1,4 +1,5 @@
-// The letters at the head of a text, which the Rust's parse_text reads.
+// The letters at the head of a text, which the Rust's parse_text reads. One walk puts them and one gives their length: a walk that does either
+// would be asked at each letter which it is to do.
 ghost use Rattle.std.specs.Prelude.{◌≡◌, ◌^◌, ◌≤◌, ◌<◌, length, drop};
 ghost use Rattle.text.specs.Put.{Room, Puts};
 ghost use Rattle.text.specs.Xml.{in_text};

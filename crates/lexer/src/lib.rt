@@ -19,12 +19,14 @@ pub struct Lexeme {
     pub end: usize,
 }
 
-// A place in the body.
+// A place in the body, without the bytes: the cursor over bytes that document 01 has below the `Lexer` over the caller's slice. It holds no slice
+// whose length could bound the place, so its functions ask for that.
 #[derive(Clone, Copy)]
 struct Cursor {
     at: usize,
 }
 
+// The Rust's lexer skips these four: `is_ascii_whitespace` has the form feed too.
 fn is_whitespace(b: u8) -> bool
     ensures { result ≡ is_whitespace b }
 {
@@ -34,13 +36,13 @@ fn is_whitespace(b: u8) -> bool
 fn is_digit(b: u8) -> bool
     ensures { result ≡ is_digit b }
 {
-    matches!(b, b'0'..=b'9')
+    b.is_ascii_digit()
 }
 
 pub fn is_alphabetic(b: u8) -> bool
     ensures { result ≡ is_alphabetic b }
 {
-    matches!(b, b'a'..=b'z' | b'A'..=b'Z')
+    b.is_ascii_alphabetic()
 }
 
 impl Lexeme {
@@ -52,7 +54,8 @@ impl Lexeme {
 }
 
 impl Cursor {
-    // Past the bytes that pass a test.
+    // Past the bytes that pass a test. It is a loop over places, as the answer is one, or the length; `position` would count from the cursor, and
+    // want its place added and the length put for none.
     fn skip<F: Fn(u8) -> bool>(self, s: &[u8], passes: F) -> Cursor
         requires inside { self.at ≤ length s.now }
         requires callable { F.IsAlwaysCallable passes }
@@ -83,7 +86,7 @@ impl Cursor {
         self.skip(s, is_alphabetic)
     }
 
-    // Past the digits of a number and at most one period.
+    // Past the digits of a number and at most one period. It is a loop of its own, since what a byte is depends on whether a period came before.
     fn skip_number(self, s: &[u8]) -> Cursor
         requires { self.at ≤ length s.now }
         ensures { (result.at ≡ self.at + read_number false (drop self.at s.now)) × (result.at ≤ length s.now) }
@@ -153,11 +156,8 @@ impl Cursor {
         let c = p.code;
         let end = at + p.width;
         match c {
-            61 => Lexeme::new(Token::Operator(61), at, end), // =
-            59 => Lexeme::new(Token::Operator(59), at, end), // ;
-            44 => Lexeme::new(Token::Operator(44), at, end), // ,
-            46 => Lexeme::new(Token::Operator(46), at, end), // .
-            39 => Lexeme::new(Token::Operator(39), at, end), // '
+            // ! ' * + , - . / ; < = >
+            33 | 39 | 42..=47 | 59..=62 => Lexeme::new(Token::Operator(c), at, end),
             40 => Lexeme::new(Token::Paren(1), at, end), // (
             41 => Lexeme::new(Token::Paren(2), at, end), // )
             123 => Lexeme::new(Token::LBrace, at, end), // {
@@ -165,13 +165,6 @@ impl Cursor {
             91 => Lexeme::new(Token::Paren(3), at, end), // [
             93 => Lexeme::new(Token::Paren(4), at, end), // ]
             124 => Lexeme::new(Token::Paren(5), at, end), // |
-            43 => Lexeme::new(Token::Operator(43), at, end), // +
-            45 => Lexeme::new(Token::Operator(45), at, end), // -
-            42 => Lexeme::new(Token::Operator(42), at, end), // *
-            47 => Lexeme::new(Token::Operator(47), at, end), // /
-            33 => Lexeme::new(Token::Operator(33), at, end), // !
-            60 => Lexeme::new(Token::Operator(60), at, end), // <
-            62 => Lexeme::new(Token::Operator(62), at, end), // >
             95 => Lexeme::new(Token::Underscore, at, end), // _
             94 => Lexeme::new(Token::Circumflex, at, end), // ^
             38 => Lexeme::new(Token::Ampersand, at, end), // &
@@ -185,8 +178,7 @@ impl Cursor {
             }
             92 => self.read_command(s), // a backslash
             48..=57 => self.read_number(s),
-            65..=90 => Lexeme::new(Token::Letter(c, Variant::Italic), at, end),
-            97..=122 => Lexeme::new(Token::Letter(c, Variant::Italic), at, end),
+            65..=90 | 97..=122 => Lexeme::new(Token::Letter(c, Variant::Italic), at, end),
             _ => Lexeme::new(Token::Letter(c, Variant::Normal), at, end),
         }
     }

@@ -1,4 +1,6 @@
 // The records that the parser makes once the operands of a node are read. Those that cannot be refused are a Result too, as their callers answer with it.
+// Store and state are two parameters: the state is a value, and each caller lends the store anew, so a struct of both would be made for each call.
+// An index does not know how many records are made, so each contract says of its parts that they are.
 #![tactic(auto)]
 
 ghost use Rattle.std.specs.Prelude.{◌≡◌, ◌+◌, ◌-◌, ◌*◌, ◌^◌, ◌≤◌, ◌<◌, length, Ok, Some};
@@ -63,7 +65,7 @@ pub fn make_leaf(store: &mut [u8], p: Parser, l: Leaf) -> Result<ParsedNode, Ref
     done(p, 1)
 }
 
-// A node with one part, which stands at an index.
+// A node with one part, which stands at an index. There is a function for each number of parts, as their contracts differ in the parts that they name.
 pub fn make_one(store: &mut [u8], p: Parser, k: One, a: usize) -> Result<ParsedNode, Refusal>
     requires { Free store.old p 1 × (a < p.made) }
     ensures { BuildsOne store.old store.new p a (λ n. build 1 (one k n) p) result }
@@ -139,7 +141,7 @@ pub fn make_scripts(
     }
 }
 
-// A node whose first part is a leaf.
+// A node whose first part is a leaf. It is not one with the function below, since the contracts differ in the order of the parts.
 pub fn make_leaf_first(
     store: &mut [u8],
     p: Parser,
@@ -173,7 +175,7 @@ pub fn make_leaf_second(
     done(p, 2)
 }
 
-// A fraction without a line, between parentheses; with a style it is in a row of its own.
+// A fraction without a line, between parentheses; with a style it is in a row of its own. The fences are numbers of texts, as a record holds numbers.
 fn make_binom(
     store: &mut [u8],
     p: Parser,

@@ -1,4 +1,5 @@
 // Drafting a page: how its paragraphs come out, laid one behind the other as far as there is room, and which of them stand as typed.
+// What is lent is handed on one by one: store and work are lent anew for each paragraph, and drafting has other buffers beside them than writing.
 ghost use Rattle.std.specs.Prelude.{◌≡◌, ◌+◌, ◌*◌, ◌^◌, ◌≤◌, ◌<◌, length};
 ghost use Rattle.latex2mathml.specs.Laid.{growth};
 ghost use Rattle.page.specs.Marks.{Drafted, Totalled};
@@ -30,7 +31,8 @@ fn draft_paragraph(
     }
 }
 
-// Drafts each paragraph in turn, with the breaks between them, and marks those that are left as typed.
+// Drafts each paragraph in turn, with the breaks between them, and marks those that are left as typed. The loop is no `for`: k counts the paragraphs,
+// whose number is not known before the last.
 pub fn draft_page(
     manner: Manner,
     document: &[u8],

@@ -1,4 +1,5 @@
 // The page operation: each paragraph of a document is replaced, or stands as typed where the replacement refuses it.
+// What is lent is handed on one by one, since store and work are lent anew for each paragraph, and drafting and writing differ in the buffers beside them.
 #![tactic(auto)]
 
 mod draft;
@@ -52,7 +53,8 @@ fn page_in(
     Ok(totals)
 }
 
-// The page operation with DRAFT bytes for the draft and as many marks as given: fewer take less space to clear.
+// The page operation with DRAFT bytes for the draft and as many marks as given: fewer take less space to clear. There is no heap, so both are arrays,
+// with their sizes as const parameters.
 fn page_within<const DRAFT: usize, const MARKS: usize>(
     manner: Manner,
     document: &[u8],

@@ -1,4 +1,5 @@
 // Writing a page that has been measured: each paragraph replaced or as typed, and the breaks between them.
+// What is lent is handed on one by one: store and work are lent anew for each paragraph, and writing has other buffers beside them than drafting.
 ghost use Rattle.std.specs.Prelude.{◌≡◌, true, length};
 ghost use Rattle.text.specs.Put.{RoomAt, PutsAt};
 ghost use Rattle.breaks.specs.Pieces.{pieces};
@@ -10,7 +11,7 @@ use latex2mathml::Manner;
 use latex2mathml::replace::write_replacement;
 use text::put::put;
 
-// Writes a paragraph at a place as it comes out: replaced, or as typed.
+// Writes a paragraph at a place as it comes out: replaced, or as typed, by the yes or no that drafting put down for it.
 fn write_paragraph(
     manner: Manner,
     p: &[u8],
@@ -30,7 +31,8 @@ fn write_paragraph(
     }
 }
 
-// Writes each paragraph in turn and copies the breaks between them. The turns are those of drafting; what is kept from one to the next is not, so the loop stands in both.
+// Writes each paragraph in turn and copies the breaks between them. Drafting has the same loop: each turn lends its own buffers, and one walk for both
+// would take a closure that holds all of them, and a law for it. It is no `for`: k goes with the paragraphs, whose end is the document's.
 pub fn write_page(
     manner: Manner,
     document: &[u8],

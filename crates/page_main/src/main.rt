@@ -57,6 +57,7 @@ fn answer(document: &[u8], out: &mut [u8; 65536]) -> usize
 }
 
 // The same for the n bytes that were read, with a place more for them than a document may have bytes. It stands beside `main`, whose contract can't name what is written.
+// The array and n are two parameters, as the promise names the length of the whole array.
 fn respond(input: &[u8; 32769], n: usize, out: &mut [u8; 65536]) -> usize
     requires { n ≤ length input.now }
     ensures { (length input.now ≡ read_limit) × Answers (take n input.now) result out.new }

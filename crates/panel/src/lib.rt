@@ -16,7 +16,7 @@ use error::Refusal;
 use latex2mathml::Manner;
 use text::Dialect;
 
-// The display that a yes or no asks for.
+// The display that a yes or no asks for. It is no `From`, nor is the next: C gives a bool, and the types are of other crates, where a bool says nothing.
 #[tactic(auto, unfolding(crate::specs::Calls::style_of))]
 fn style_of(block: bool) -> DisplayStyle
     ensures { result ≡ style_of block }

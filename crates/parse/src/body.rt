@@ -9,7 +9,7 @@ use error::Refusal;
 use parser::Parser;
 use token::Mark;
 
-// The nodes up to the end of a body, with depth calls open together at most.
+// The nodes up to the end of a body, with depth calls open together at most. The loop is a `while`, since the end is a token that is found by reading.
 fn parse_nodes(s: &[u8], store: &mut [u8], depth: usize) -> Result<ParsedNodes, Refusal>
     requires { (length s.now ≤ 4096) × (2 * length s.now * 24 ≤ length store.old) }
     ensures { BodyAnswers s.now store.new (parse depth s.now) result }

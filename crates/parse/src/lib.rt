@@ -1,5 +1,6 @@
 // The parser: the functions of the Rust's parse.rs that call one another. Body, store, state and depth are handed on one by one: the state is a value
-// that each call gives anew, so a struct of the four would be made anew before each call.
+// that each call gives anew, so a struct of the four would be made anew before each call. Body and store are the same in all calls, but a struct with the
+// lent store would be lent anew to each call, as the store is now.
 #![tactic(auto, using(crate::proofs::RoomLaws::may_next))]
 
 pub mod body;
@@ -398,7 +399,7 @@ fn parse_begin(s: &[u8], store: &mut [u8], p: Parser, depth: usize) -> Result<Pa
     make_environment(store, last.after, env, content.node)
 }
 
-// The nodes up to a token, as one node.
+// The nodes up to a token, as one node. The loop is a `while`, since the end is a token that is found by reading: there is nothing to count.
 #[cycle(parser)]
 fn parse_group(
     s: &[u8],

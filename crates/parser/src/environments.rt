@@ -21,7 +21,8 @@ fn spells(t: &[u8], name: &[u8]) -> bool
     letter_at(t, i).is_none()
 }
 
-// The environment whose name the letters of a text spell, if there is one: five tests, as a loop over a table of the names is no shorter.
+// The environment whose name the letters of a text spell, if there is one: the five tests in a row are the definition's five arms, while a loop over a
+// table of the names would owe an invariant that says which arms are passed.
 pub fn environment_of(t: &[u8]) -> Option<Environment>
     ensures { result ≡ environment t.now }
 {

@@ -16,7 +16,7 @@ use lexer::letters::letter_or_token;
 use lexer::reader::token_from;
 use token::{Mark, Token};
 
-// The Rust's `Parser`, by value: the lexer stands at the end of `peek`, and `made` counts the records.
+// The Rust's `Parser`, by value: the lexer stands at the end of `peek`, and `made` counts the records in the store, a lent slice that keeps no count.
 #[derive(Clone, Copy)]
 pub struct Parser {
     pub cur: Lexeme,
@@ -24,7 +24,7 @@ pub struct Parser {
     pub made: usize,
 }
 
-// A text of the body: the letters from a up to e, and the state behind them.
+// A text of the body: the letters from a up to e, and the state behind them. The two are places of the body, as a record of the store holds numbers.
 #[derive(Clone, Copy)]
 pub struct TextRead {
     pub a: usize,
@@ -69,7 +69,8 @@ pub enum Environment {
     Between(u32, u32),
 }
 
-// The token from a place on; of a number that begins at the place itself, and not behind whitespace, the first digit alone.
+// The token from a place on; of a number that begins at the place itself, and not behind whitespace, the first digit alone. Body and place are two
+// parameters here and below: the state keeps the place without the body, so a struct of both would be made anew for each token.
 fn digit_or_token(s: &[u8], at: usize) -> Lexeme
     requires { at ≤ length s.now }
     ensures { (t : Token) → acts_on_a_digit t ≡ true → result ≡ following t at (drop at s.now) }

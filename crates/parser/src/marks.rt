@@ -7,7 +7,7 @@ use crate::Side;
 use ast::{Leaf, Two};
 use token::{Mark, Token, Undefined};
 
-// The mark of a parenthesis, by its text.
+// The mark of a parenthesis, by its text. None is `Mark::Other` here and below, as the definition has it: an Option would wrap each mark that is asked for.
 #[tactic(auto, unfolding(token::specs::Roles::paren_mark, token::specs::Texts::text, token::specs::Texts::texts))]
 fn paren_mark(t: u32) -> Mark
     ensures { result ≡ paren_mark t }
@@ -68,7 +68,7 @@ pub fn paren_of(t: Token) -> Option<u32>
     }
 }
 
-// The text of a fence: a parenthesis, or none for a period.
+// The text of a fence: a parenthesis, or none for a period, by text 0, which is the empty text.
 #[tactic(auto, using(crate::proofs::MarkLaws::fence_as))]
 pub fn fence_of(t: Token) -> Option<u32>
     ensures { result ≡ fence_of t }
@@ -98,7 +98,7 @@ pub fn script_kind(side: Side) -> Two
     }
 }
 
-// Whether a mark is the one before it again, both by where their operands stand.
+// Whether a mark is the one before it again, both by where their operands stand. It is a function since its contract names the rule of the definition.
 #[tactic(auto, using(crate::proofs::MarkLaws::sides_same))]
 pub fn repeats(side: Side, again: Side) -> bool
     ensures { result ≡ repeats side again }
@@ -116,7 +116,8 @@ pub fn other_limit(side: Side) -> Mark
     }
 }
 
-// The leaf that a token is by itself; a token with operands is none, and any leaf will do. It is no `From`, as neither type is of this crate.
+// The leaf that a token is by itself; a token with operands is none, and any leaf will do. It is no `From`, since not every token is a leaf, and no
+// `Option`, since the definition gives such a token an undefined leaf as well.
 #[tactic(auto, unfolding(crate::specs::Marks::leaf_of))]
 pub fn leaf_of(t: Token) -> Leaf
     ensures { result ≡ leaf_of t }
@@ -140,7 +141,7 @@ pub fn leaf_of(t: Token) -> Leaf
     }
 }
 
-// Whether a token is a leaf by itself, and not an undefined one.
+// Whether a token is a leaf by itself, and not an undefined one: the definition asks it beside the leaf, and its callers do not need the leaf.
 #[tactic(auto, unfolding(crate::specs::Marks::leaf_of, crate::specs::Marks::is_defined))]
 fn is_plain(t: Token) -> bool
     ensures { result ≡ is_defined (leaf_of t) }

@@ -6,9 +6,11 @@ use mathlib.Core.List.{List}
 use Prim.Native.Nat.{ℕ, zero, suc, ◌+◌, ◌-◌, ◌*◌, ◌^◌, ◌≤◌, ◌<◌, zero-le}
 use native.Mathlib.Omega.{arith}
 use native.Mathlib.Nat.{mul-add}
-use lib.ListN.{length, get_or, get_or-eq_default}
+use lib.ListN.{length, get_or-eq_default}
+use borrow.Author.Tests.{leb-true}
+use denote.Enum.Bare.{sameb}
+use Rattle.std.specs.Int.{from_bool}
 use Rattle.text.proofs.Cases.{never}
-use Rattle.text.proofs.Tabled.{each}
 use Rattle.text.specs.Examples.{text_opens}
 use Rattle.text.specs.declared.Dialect.{Dialect}
 use Rattle.attribute.specs.declared.ColumnAlign.{ColumnAlign}
@@ -19,13 +21,15 @@ use Rattle.ast.specs.declared.Shape.{Shape}
 use Rattle.ast.specs.declared.Fate.{Fate}
 use Rattle.ast.specs.declared.Record.{Record}
 use Rattle.ast.specs.declared.Fields.{Fields}
-use Rattle.ast.specs.Shape.{fields_of, shapes, matrix_shape, shape_of}
+use Rattle.ast.specs.Shape.{fields_of, shapes, matrix_shape, shape_of, is_matrix}
 use Rattle.ast.specs.Store.{record_at}
 use Rattle.ast.specs.Tree.{leaf, one, two, three, row, matrix, Nodes, empty, size}
+use Rattle.ast.specs.contracts.Fate.{the_type}
 use Rattle.ast.specs.Held.{count, HoldsAll}
 use Rattle.ast.specs.Inside.{ShapeInside}
 use Rattle.ast.specs.Sum.{marks, mark_sum, cells, Chain, shape_at, fate_at, tree_sum, tree_sums, own_sum, own_taken, added_by, taken_by, added, taken, store_sum}
 use Rattle.ast.proofs.CellLaws.{mark_small}
+use Rattle.ast.proofs.ShapeLaws.{matrix_tag}
 use Rattle.ast.proofs.SumLaws.{added_all, store_sum_lem}
 use Rattle.markup.specs.Print.{at_place, cell, cell_leaf, print_leaf, print_all}
 use Rattle.markup.specs.Own.{under, own_text, own, error_of, own_errors, errors}
@@ -310,15 +314,18 @@ module _ (d : Dialect) (s st : List ℕ) where
 
 -- ---- what the code reads
 
--- a record with a tag below 36 is no matrix, any other is one
-no_matrix : (f : Leaf → ℕ) (st : List ℕ) (q : Record) (a : ℕ) → q.tag < 36 → marks_in f st (shape_of (fields_of q)) a ≡ 0
-unfolding shape_of shapes
-no_matrix f st q a lt =
-    each (λ i. marks_in f st (get_or shapes i matrix_shape q.attr q.x q.y) a) (λ i. 0) 36 refl q.tag lt
+-- what is no matrix has no marks, and what is one has a tag from 36 on
+none_marked : (f : Leaf → ℕ) (st : List ℕ) (k : Shape) (a : ℕ) → is_matrix k ≡ false → marks_in f st k a ≡ 0
+none_marked f st (Shape.Leaf l) a h = refl
+none_marked f st (Shape.One k) a h = refl
+none_marked f st (Shape.Two k) a h = refl
+none_marked f st (Shape.Three k) a h = refl
+none_marked f st (Shape.Row n) a h = refl
+none_marked f st (Shape.Matrix align n) a h = never (ap from_bool (sym h))
 
-pub a_matrix : (q : Record) → 36 ≤ q.tag → shape_of (fields_of q) ≡ Shape.Matrix (align_of q.attr) q.x
+pub a_matrix : (q : Record) → is_matrix (shape_of (fields_of q)) ≡ true → shape_of (fields_of q) ≡ Shape.Matrix (align_of q.attr) q.x
 unfolding shape_of shapes
-a_matrix q le = ap (λ g. g q.attr q.x q.y) (get_or-eq_default shapes matrix_shape le)
+a_matrix q h = ap (λ g. g q.attr q.x q.y) (get_or-eq_default shapes matrix_shape (leb-true 36 q.tag (matrix_tag q.tag q.attr q.x q.y ∙ h)))
 
 fine_inside : (n : ℕ) (st : List ℕ) (top : ℕ) (k : Shape) (a : ℕ) → Fine n st top k a → ShapeInside n k
 fine_inside n st top (Shape.Leaf l) a g = g
@@ -335,6 +342,17 @@ errors_few (Shape.Two k) = zero-le
 errors_few (Shape.Three k) = zero-le
 errors_few (Shape.Row c) = zero-le
 errors_few (Shape.Matrix align c) = zero-le
+
+-- what the derived equality of fates says
+pub same_dropped : (f : Fate) → sameb the_type f Fate.Dropped ≡ is_dropped f
+same_dropped Fate.Counted = refl
+same_dropped Fate.Slashed = refl
+same_dropped Fate.Dropped = refl
+
+pub same_slashed : (f : Fate) → sameb the_type f Fate.Slashed ≡ is_slashed f
+same_slashed Fate.Counted = refl
+same_slashed Fate.Slashed = refl
+same_slashed Fate.Dropped = refl
 
 module _ {d : Dialect} {s st : List ℕ} {top k : ℕ} {sums : Sums} (h : Measurable s st top) (g : Summed d s st top k sums) (lt : k < top) where
   fine_here : Fine (length s) st top (shape_at st k) (record_at st k).a
@@ -390,14 +408,14 @@ module _ {d : Dialect} {s st : List ℕ} {top k : ℕ} {sums : Sums} (h : Measur
         omega arith
 
     -- the record is no matrix
-    pub step_plain : {n m : ℕ} → q.tag < 36 → n ≡ length (own_text d (under (is_slashed f)) s (shape_of v)) → m ≡ own_errors (shape_of v)
+    pub step_plain : {n m : ℕ} → is_matrix (shape_of (fields_of q)) ≡ false → n ≡ length (own_text d (under (is_slashed f)) s (shape_of v)) → m ≡ own_errors (shape_of v)
         → Summed d s st top (k + 1) (record { length = sums.length + n; errors = sums.errors + m; ampersands = sums.ampersands; lines = sums.lines })
     step_plain {n} {m} small en em =
         let short-body = h.short in
         let o = own_small (is_slashed f) in
         let a = adds d s st (fate_at st top k) k (rw e at held) in
-        let x : marks_in (marks 1 0) st (shape_at st k) (record_at st k).a ≡ 0 = rw (← shape_here, ev) (no_matrix (marks 1 0) st q (record_at st k).a small) in
-        let y : marks_in (marks 0 1) st (shape_at st k) (record_at st k).a ≡ 0 = rw (← shape_here, ev) (no_matrix (marks 0 1) st q (record_at st k).a small) in
+        let x : marks_in (marks 1 0) st (shape_at st k) (record_at st k).a ≡ 0 = rw (← shape_here, ev) (none_marked (marks 1 0) st (shape_of (fields_of q)) (record_at st k).a small) in
+        let y : marks_in (marks 0 1) st (shape_at st k) (record_at st k).a ≡ 0 = rw (← shape_here, ev) (none_marked (marks 0 1) st (shape_of (fields_of q)) (record_at st k).a small) in
         let n-is : length (own_text d (under (is_slashed (fate_at st top k))) s (shape_at st k)) ≡ n = rw (← shape_here, ← e) (sym en) in
         let m-is : own_errors (shape_at st k) ≡ m = rw (← shape_here) (sym em) in
         let few = errors_few (shape_of v) in
@@ -419,7 +437,7 @@ module _ {d : Dialect} {s st : List ℕ} {top k : ℕ} {sums : Sums} (h : Measur
         }
 
     -- the record is a matrix
-    module _ (big : 36 ≤ q.tag) where
+    module _ (big : is_matrix (shape_of (fields_of q)) ≡ true) where
       matrix_here : shape_at st k ≡ Shape.Matrix (align_of q.attr) q.x
       matrix_here = sym shape_here ∙ ap (λ x. shape_of x) ev ∙ a_matrix q big
 

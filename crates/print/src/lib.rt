@@ -78,7 +78,8 @@ impl<'a> Source<'a> {
         }
     }
 
-    // Prints a node with one part, at the index a.
+    // Prints a node with one part, at the index a. Those with two and three parts have functions of their own, as the contracts speak of as many
+    // trees as there are parts.
     #[cycle(printer)]
     fn print_one(&self, k: One, a: usize, left: usize, out: &mut Output)
         requires { Printable (TreeAt self.now.body.now self.now.store.now left a) (λ t. print self.now.dialect self.now.body.now (Node.one k t)) out.old }
@@ -136,7 +137,8 @@ impl<'a> Source<'a> {
         out.put(b"</mtd></mtr></mtable>");
     }
 
-    // Prints n nodes, each the next of the one before, from the index a on; all are below `left`.
+    // Prints n nodes, each the next of the one before, from the index a on; all are below `left`. The records are linked and n is their number,
+    // so there is no slice of them to go through.
     #[cycle(printer)]
     pub fn print_nodes(&self, place: Place, a: usize, n: u32, left: usize, out: &mut Output)
         requires { Printable (NodesAt self.now.body.now self.now.store.now left a n) (shown_all self.now.dialect place self.now.body.now) out.old }

@@ -1,8 +1,9 @@
 // The length of the markup and the number of its error texts, added over the records as they lie in the store.
 ghost use Rattle.std.specs.Prelude.{◌≡◌, ◌+◌, ◌<◌};
-ghost use Rattle.print.specs.Measure.{Measurable, is_dropped, is_slashed, Measures, Summed};
+ghost use Rattle.print.specs.Measure.{Measurable, Measures, Summed};
 
 use crate::Source;
+use ast::codes::is_matrix;
 use ast::store::get_record;
 use ast::sum::{fate_at, marks};
 use ast::{Fate, Fields};
@@ -24,18 +25,6 @@ struct Sums {
     lines: usize,
 }
 
-fn is_dropped(f: Fate) -> bool
-    ensures { result ≡ is_dropped f }
-{
-    matches!(f, Fate::Dropped)
-}
-
-fn is_slashed(f: Fate) -> bool
-    ensures { result ≡ is_slashed f }
-{
-    matches!(f, Fate::Slashed)
-}
-
 impl Sums {
     // Adds the record at k, which adds nothing where the finished tree does not hold it.
     fn add_at(&mut self, source: &Source, top: usize, k: usize)
@@ -43,14 +32,14 @@ impl Sums {
         ensures { Summed source.now.dialect source.now.body.now source.now.store.now top (k + 1) self.new }
     {
         let fate = fate_at(source.store, top, k);
-        if is_dropped(fate) {
+        if fate == Fate::Dropped {
             return;
         }
         let r = get_record(source.store, k);
         let f = Fields::from(r);
-        self.length += own_len(source.dialect, is_slashed(fate), source.body, f);
+        self.length += own_len(source.dialect, fate == Fate::Slashed, source.body, f);
         self.errors += own_errors(f);
-        if r.tag < 36 {
+        if !is_matrix(r) {
             return;
         }
         let m = marks(source.store, r.x, r.a);

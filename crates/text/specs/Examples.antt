@@ -1,6 +1,6 @@
 -- Worked examples, which antt computes.
 -- Assumes nothing.
-use Rattle.std.specs.Prelude.{◌≡◌, refl, true, false, [], ◌∷◌, map}
+use Rattle.std.specs.Prelude.{◌≡◌, refl, true, false, [], ◌∷◌, map, ◌/◌}
 use Rattle.text.specs.Utf8.{table, follow, goes_on, well_formed, begins, value, lead, code_point, encode}
 use Rattle.text.specs.Text.{bytes}
 use Rattle.text.specs.Put.{digits}
@@ -54,8 +54,8 @@ decoded : map code_point
 unfolding text_opens
 decoded = refl
 
--- a packed text: three bytes, and their number in the highest byte
-packed : digits 3 0x0300_0000_0069_6d6c ≡ bytes "lmi"
+-- a word of three bytes with their number in the highest one: as many digits of it, from the lowest on
+packed : digits (0x0300_0000_0069_6d6c / 0x100_0000_0000_0000) 0x0300_0000_0069_6d6c ≡ bytes "lmi"
 unfolding text_opens
 packed = refl
 

@@ -92,7 +92,8 @@ fn is_ascii(s: &[u8]) -> bool
     !any(s, |b| 0x7f < b)
 }
 
-// Whether the bytes are well-formed UTF-8, in one pass; ASCII is.
+// Whether the bytes are well-formed UTF-8, in one pass; ASCII is. It goes by `first_byte`, the table by which the lexer reads: core's `from_utf8`
+// promises a definition of its own, which would have to be proved to be that of this table.
 pub fn well_formed(s: &[u8]) -> bool
     ensures { result ≡ well_formed s.now }
 {
@@ -150,7 +151,8 @@ fn replacement() -> CodePoint
     }
 }
 
-// The code point whose first byte gave `bits` and whose other bytes, as `next` says, are to begin `rest`.
+// The code point whose first byte gave `bits` and whose other bytes, as `next` says, are to begin `rest`. The bytes are asked for by their places:
+// an iterator over them would end where one is missing, and here that is an answer, the same as for a byte out of its range.
 fn tail(rest: &[u8], next: Follow, bits: u32) -> CodePoint
     requires { (next.left ≤ 3) × ((next.left ≡ 0 → ⊥) → 128 ≤ next.low) × (bits < 256) }
     ensures { result ≡ read (suc next.left) bits (pending next.left next.low next.high) rest.now }
@@ -176,7 +178,8 @@ fn tail(rest: &[u8], next: Follow, bits: u32) -> CodePoint
     }
 }
 
-// The code point at `at`, and the number of bytes that it takes.
+// The code point at `at`, and the number of bytes that it takes. Where no character is left it is a NUL of no bytes and no `Option`: the Rust's
+// lexer reads a NUL there, and the definition says the same.
 pub fn code_point(s: &[u8], at: usize) -> CodePoint
     requires { at ≤ length s.now }
     ensures { result ≡ code_point (drop at s.now) }

@@ -1,4 +1,5 @@
-// Putting pieces of text into an output.
+// Putting pieces of text into an output. What is put has its length from a function of its own beside it: one function that does either would be
+// asked a flag at every piece, and would promise two things.
 
 ghost use Rattle.std.specs.Prelude.{◌≡◌, ◌+◌, ◌≤◌, length};
 ghost use Rattle.text.specs.Utf8.{encode};
@@ -31,7 +32,7 @@ impl<'a> Output<'a> {
         self.at = end;
     }
 
-    // Puts the bytes of a code point.
+    // Puts the bytes of a code point. Any number is taken, as records and tokens hold numbers: core's `encode_utf8` wants a `char`, which is not any.
     pub fn put_code_point(&mut self, c: u32)
         requires { Room self.old (length (encode c)) }
         ensures { Puts self.old self.new (encode c) }
@@ -52,7 +53,8 @@ impl<'a> Output<'a> {
     }
 }
 
-// Puts a piece at a place of a buffer, and answers the place behind it.
+// Puts a piece at a place of a buffer, and answers the place behind it: for callers that keep buffer and place apart, as they only count what does
+// not fit, and their place may then lie behind the buffer's end, where that of an output that is put to never does.
 pub fn put(piece: &[u8], out: &mut [u8], at: usize) -> usize
     requires { RoomAt out.old at (length piece.now) }
     ensures { PutsAt out.old out.new at piece.now result }
@@ -62,7 +64,7 @@ pub fn put(piece: &[u8], out: &mut [u8], at: usize) -> usize
     output.at
 }
 
-// The number of bytes of a code point.
+// The number of bytes of a code point, for any number, as above: `len_utf8` wants a `char`.
 pub fn code_point_len(c: u32) -> usize
     ensures { result ≡ length (encode c) }
 {

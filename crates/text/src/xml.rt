@@ -40,7 +40,7 @@ pub fn put_character(dialect: Dialect, c: u32, out: &mut Output)
     }
 }
 
-// The number of bytes of a character of a formula's text.
+// The number of bytes of a character of a formula's text, apart from what puts it, as in `put`.
 pub fn character_len(dialect: Dialect, c: u32) -> usize
     ensures { result ≡ length (in_text dialect (encode c)) }
 {
@@ -58,7 +58,8 @@ fn is_allowed(c: u32) -> bool
     matches!(c, 0x9 | 0xa | 0xd | 0x20..=0xd7ff | 0xe000..=0xfffd | 0x10000..=0x10ffff)
 }
 
-// Whether a body holds a character that XML 1.0 forbids.
+// Whether a body holds a character that XML 1.0 forbids. `any` over the places was tried: that what it says of its run is `forbidden` of the body
+// was not proved.
 pub fn is_forbidden(s: &[u8]) -> bool
     ensures { result ≡ forbidden s.now }
 {

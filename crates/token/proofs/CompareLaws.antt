@@ -1,13 +1,17 @@
 -- A row and a name, compared word by word: each way that the comparison goes on or ends, by what the table has at the next word.
 -- Assumes nothing.
-use Rattle.std.specs.Prelude.{◌≡◌, ℕ, suc, ◌+◌, ◌-◌, ◌*◌, ◌<◌, ◌≤◌, ltb, List, [], ◌∷◌, length, get_or, drop}
+use Rattle.std.specs.Prelude.{◌≡◌, ℕ, suc, ◌+◌, ◌-◌, ◌*◌, ◌/◌, ◌%◌, min, ◌<◌, ◌≤◌, ltb, List, [], ◌∷◌, length, get_or, drop}
+use Rattle.std.specs.Prelude.{None}
+use Rattle.std.specs.List.{slice_get}
+use Rattle.std.proofs.lemmas.Option.{slice_get-get_or}
+use mathlib.Core.Path.{refl}
 use native.Mathlib.Numerals.{add-one}
 use native.Mathlib.Omega.{arith}
 use lib.ListN.{drop_of_length-le}
 use lib.Seq.{drop-cons}
 use Rattle.std.specs.declared.cmp.Ordering.TheVariants.{Less, Equal, Greater}
 use Rattle.token.specs.Key.{word_of, words_from, word_count, words, key, rows, step, cmp, Row}
-use Rattle.text.proofs.Cases.{by_order}
+use Rattle.text.proofs.Cases.{by_order, never}
 use Rattle.token.proofs.Packed.{from_more, from_none}
 use Rattle.token.proofs.RowLaws.{name_word, name_below, code_marked, row_inside}
 
@@ -15,6 +19,15 @@ use Rattle.token.proofs.RowLaws.{name_word, name_below, code_marked, row_inside}
 pub words_all : (l : List ℕ) (n : ℕ) → n ≡ word_count (length l) → words l ≡ words_from (n - 0) (4 * 0) l
 unfolding words
 words_all l n e = let all : n - 0 ≡ word_count (length l) = omega arith in rw all
+
+-- a division that rounds up, as the words of a name are counted
+pub rounded : (n r : ℕ) → r ≡ n / 4 + min 1 (n % 4) → r ≡ (n + 3) / 4
+rounded n r e = omega arith
+
+-- only a name of no bytes has no last one
+pub no_last : (l : List ℕ) → slice_get l (length l - 1) ≡ None → length l ≡ 0
+no_last [] e = refl
+no_last (x ∷ xs) e = never (cc (slice_get-get_or (x ∷ xs) (length (x ∷ xs) - 1) 0 (omega arith)))
 
 -- the word k of the row is inside the table, if no row that begins there ends before it
 pub word_inside : {at k : ℕ} {A : ℕ → Type 0} → (i : ℕ) × Row at i → ((i : ℕ) → Row at i → (k ≤ length (key i)) × A i) → at + k < 1409

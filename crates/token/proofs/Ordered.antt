@@ -9,6 +9,8 @@ use native.Mathlib.Omega.{arith}
 use borrow.Author.Tests.{lt-ltb, le-ltb}
 use Rattle.std.specs.declared.cmp.Ordering.{Ordering}
 use Rattle.std.specs.declared.cmp.Ordering.TheVariants.{Less, Equal, Greater}
+use Rattle.std.specs.Ordering.{MatchOrdering, nat_cmp}
+use Rattle.std.proofs.lemmas.Cmp.{ranked}
 use Rattle.token.specs.Key.{step, cmp}
 use Rattle.text.proofs.Cases.{never, by_order, by_three}
 
@@ -21,6 +23,20 @@ step_greater x y o h = rw (le-ltb x y (le_of_lt h), lt-ltb y x h)
 
 pub step_equal : (x y : ℕ) (o : Ordering) → x ≡ y → step (ltb x y) (ltb y x) o ≡ o
 step_equal x y o h = rw (le-ltb x y (omega arith), le-ltb y x (omega arith))
+
+-- .. and by how they compare
+decided : (x y : ℕ) (o r : Ordering) → MatchOrdering r (x < y) (x ≡ y) (y < x) → (r ≡ Equal → ⊥) → step (ltb x y) (ltb y x) o ≡ r
+decided x y o Less m h = step_less x y o m
+decided x y o Equal m h = absurd (h refl)
+decided x y o Greater m h = step_greater x y o m
+
+pub step_unequal : (x y : ℕ) (o r : Ordering) → r ≡ nat_cmp x y → (r ≡ Equal → ⊥) → step (ltb x y) (ltb y x) o ≡ r
+step_unequal x y o r e h = decided x y o r (ranked x y r e) h
+
+pub same_numbers : (x y : ℕ) (r : Ordering) → r ≡ nat_cmp x y → r ≡ Equal → x ≡ y
+same_numbers x y Less e h = never (cc)
+same_numbers x y Equal e h = ranked x y Equal e
+same_numbers x y Greater e h = never (cc)
 
 why_less : (x y : ℕ) (o : Ordering) → step (ltb x y) (ltb y x) o ≡ Less → (x < y) ⊎ ((x ≡ y) × (o ≡ Less))
 why_less x y o e = by_three x y inl (λ g. never (cc (step_greater x y o g))) (λ q. inr (q, sym (step_equal x y o q) ∙ e))

@@ -1,4 +1,6 @@
-// The Debug text of the tokens that become `Undefined`, escaped once more, as the error text has it, in a dialect.
+// The Debug text of the tokens that become `Undefined`, escaped once more, as the error text has it, in a dialect. It is written by hand, since a
+// derived Debug promises nothing of the bytes that it writes. Each text has its length from a function of its own, as in `text::put`; dialect and
+// output are two parameters, since one is only read and the other written.
 ghost use Rattle.std.specs.Prelude.{◌≡◌, ◌+◌, ◌*◌, ◌≤◌, length};
 ghost use Rattle.text.specs.Put.{Room, Puts};
 ghost use Rattle.text.specs.Xml.{in_text};

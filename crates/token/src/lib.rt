@@ -69,7 +69,8 @@ pub enum Undefined {
     Command(usize, usize),
 }
 
-// The tokens that the parser asks for by name.
+// The tokens that the parser asks for by name. Each token has one mark, and one that is not asked for has `Other`: an `Option` of a mark would be
+// taken apart at each comparison.
 #[derive(Clone, Copy, PartialEq, Eq)]
 pub enum Mark {
     EOF,
@@ -98,18 +99,18 @@ impl Token {
     }
 }
 
-// The byte k of a name, and 0 past its end.
+// The byte k of a name, and 0 past its end, as its word has it.
 fn byte_of(name: &[u8], k: usize) -> u32
     ensures { (result ≡ slice_index name.now k) × (result < 256) }
 {
-    if k < name.len() {
-        u32::from(name[k])
-    } else {
-        0
+    match name.get(k) {
+        Some(&b) => u32::from(b),
+        None => 0,
     }
 }
 
-// The four bytes of a name from a place on as a number, with zeros past its end.
+// The four bytes of a name from a place on as a number, with zeros past its end. It goes byte by byte, since a name may end before the fourth, and
+// `from_be_bytes` wants all four.
 fn pack(name: &[u8], from: usize) -> u32
     requires { from ≤ length name.now }
     ensures { result ≡ word_of (drop from name.now) }
@@ -134,18 +135,16 @@ fn compare(at: usize, first: u32, name: &[u8]) -> Ordering
     requires { ((i : ℕ) × Row at i) × (first ≡ word_of name.now) }
     ensures { (i : ℕ) → Row at i → result ≡ cmp (key i) (words name.now) }
 {
-    let n = (name.len() + 3) / 4;
+    let n = name.len().div_ceil(4);
     for k in 0..n {
         let x = word_at(at + k);
         if MARK <= x {
             return Ordering::Less;
         }
         let y = word(first, name, k);
-        if x < y {
-            return Ordering::Less;
-        }
-        if y < x {
-            return Ordering::Greater;
+        match x.cmp(&y) {
+            Ordering::Equal => {}
+            unequal => return unequal,
         }
     }
     if MARK <= word_at(at + n) {
@@ -155,7 +154,8 @@ fn compare(at: usize, first: u32, name: &[u8]) -> Ordering
     }
 }
 
-// Where the row begins that has the word at p: behind the code before it.
+// Where the row begins that has the word at p: behind the code before it. The words are read one by one by `word_at`, which alone names the table,
+// so there is no slice to go through from behind.
 fn row_of(p: usize) -> usize
     requires { p < length rows }
     ensures { (i : ℕ) × Has p result i }
@@ -168,7 +168,8 @@ fn row_of(p: usize) -> usize
     0
 }
 
-// Where the row of a name begins, found by halves, or that no row has it.
+// Where the row of a name begins, found by halves, or that no row has it. Rows differ in length, so the middle word is rarely the first of its row,
+// and `binary_search_by`, which goes by entries of one length, does not fit.
 fn search(name: &[u8]) -> Option<usize>
     ensures { Place (words name.now) result }
 {
@@ -193,16 +194,16 @@ fn search(name: &[u8]) -> Option<usize>
     None
 }
 
-// The token of the command with a name, or the one given for a name that is unknown: the table has no name that is empty or ends in a
-// zero, and its words determine any other.
+// The token of the command with a name, or the one given for a name that is unknown, as its definition takes one: the table has no name that is
+// empty or ends in a zero, and its words determine any other.
 pub fn from_command(name: &[u8], unknown: Token) -> Token
     ensures { result ≡ from_command name.now unknown }
 {
-    if name.is_empty() || name[name.len() - 1] == 0 {
+    let Some(1..) = name.last() else {
         return unknown;
-    }
+    };
     match search(name) {
-        Some(at) => token_of(word_at(at + (name.len() + 3) / 4)),
+        Some(at) => token_of(word_at(at + name.len().div_ceil(4))),
         None => unknown,
     }
 }

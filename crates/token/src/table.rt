@@ -973,7 +973,8 @@ pub fn word_at(i: usize) -> u32
     TABLE[i]
 }
 
-// The token that a code stands for: seven bits behind the mark are its form, the rest is what the form holds.
+// The token that a code stands for: seven bits behind the mark are its form, the rest is what the form holds. The table has no form but those
+// listed, and for any other the definition has EOF too.
 pub fn token_of(code: u32) -> Token
     ensures { result ≡ token_of code }
 {

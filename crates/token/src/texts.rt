@@ -1,4 +1,4 @@
-// The fixed texts that tokens and nodes carry by number.
+// The fixed texts that tokens and nodes carry by number: a node's record in the lent store holds numbers only, and no reference.
 ghost use Rattle.std.specs.Prelude.{◌≡◌};
 ghost use Rattle.text.specs.Text.{bytes};
 ghost use Rattle.token.specs.Texts.{text_of, text_in, width_of};

@@ -33,21 +33,28 @@ pub enum Asked {
     BothDisplays,
 }
 
-impl Asked {
-    // What a letter asks.
-    fn of(letter: u8) -> Option<Asked> {
+// A letter that asks nothing known.
+#[derive(Clone, Copy)]
+pub struct AsksNothing;
+
+// What a letter asks.
+impl TryFrom<u8> for Asked {
+    type Error = AsksNothing;
+
+    fn try_from(letter: u8) -> Result<Asked, AsksNothing> {
         match letter {
-            b'M' => Some(Asked::BothDisplays),
-            b'B' => Some(Asked::One(Question::Body(DisplayStyle::Block))),
-            b'I' => Some(Asked::One(Question::Body(DisplayStyle::Inline))),
-            b'D' => Some(Asked::One(Question::Document)),
-            b'P' => Some(Asked::One(Question::Page)),
-            _ => None,
+            b'M' => Ok(Asked::BothDisplays),
+            b'B' => Ok(Asked::One(Question::Body(DisplayStyle::Block))),
+            b'I' => Ok(Asked::One(Question::Body(DisplayStyle::Inline))),
+            b'D' => Ok(Asked::One(Question::Document)),
+            b'P' => Ok(Asked::One(Question::Page)),
+            _ => Err(AsksNothing),
         }
     }
 }
 
-// An answer in the numbers of the list, which compares them as a whole: the number of the refusal, 0 for none, the length, and the counts of a page.
+// An answer in the numbers of the list: the number of the refusal, the length, and the counts of a page. The number is 0 for none, as in the list, so
+// that one derived `==` compares a stored answer with one that came.
 #[derive(Clone, Copy, Default, PartialEq)]
 pub struct Numbers {
     pub number: usize,
@@ -97,7 +104,7 @@ impl Case {
             b'n' => self.expected.number = n,
             b'p' => self.expected.paragraphs = n,
             b'l' => self.expected.left = n,
-            _ => self.asked = Asked::of(letter),
+            _ => self.asked = Asked::try_from(letter).ok(),
         }
     }
 }

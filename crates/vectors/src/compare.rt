@@ -6,7 +6,8 @@ use crate::ask::ask;
 use crate::case::{Case, Numbers, Question};
 use crate::packed::Filled;
 
-// Whether an answer is the stored one; where it is not, the error is the number that came.
+// Whether an answer is the stored one; where it is not, the error is the number that came, and 0 where nothing known was asked. The number is only told,
+// and the letter told beside it says which of the two it is, so an enum of both would be no plainer.
 pub type Verdict = Result<(), usize>;
 
 // Whether the numbers of an answer are the stored ones.
@@ -20,14 +21,14 @@ fn agrees(case: Case, got: Numbers, length: usize) -> bool
     got == expected
 }
 
-// Whether two buffers begin with the same n bytes.
+// Whether two buffers begin with the same n bytes. It takes n and no slices of n bytes, since either buffer may be shorter: that is tested here alone.
 fn alike(a: &[u8], b: &[u8], n: usize) -> bool
     ensures { result ≡ true → take n a.now ≡ take n b.now }
 {
     n <= a.len() && n <= b.len() && &a[..n] == &b[..n]
 }
 
-// Judges an answer by its numbers and by the first bytes of the output, up to an end behind its length.
+// Judges an answer by its numbers and by the first bytes of the output, up to an end behind its length; the promise names that end, as a number.
 fn judge(case: Case, got: Numbers, length: usize, out: &[u8], want: &[u8], end: usize) -> Verdict
     ensures { Judged case got length out.now want.now end result }
 {
@@ -53,6 +54,7 @@ fn put_wanted(case: Case, question: Question, line: &mut &[u8], wanted: &mut Fil
 
 // Compares the answer to a question. Behind what is written 64 bytes are looked at, which stay the byte 85 that the buffers begin with.
 // The text behind a document's output is what the work buffer is to begin with; what a page's holds afterwards is free.
+// Case, question and text are no struct: a case may ask two questions, and the text stands in a buffer of its own.
 pub fn compare(case: Case, question: Question, text: &[u8], mut line: &[u8]) -> Verdict {
     let mut store = [0u8; 196608];
     let mut work = [85u8; 65536];

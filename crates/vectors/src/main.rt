@@ -31,7 +31,8 @@ use input::read_full;
 use std::io;
 use std::io::{Print, Read};
 
-// What was counted: cases, those of them whose answer is from the documents, answers and those of them that differ.
+// What was counted: cases, those of them whose answer is from the documents, answers and those of them that differ. The bound on the counts differs
+// from function to function, so it stands in their contracts, and is no invariant here.
 #[derive(Clone, Copy, Default)]
 pub struct Tally {
     pub cases: u64,
@@ -72,7 +73,8 @@ fn tell(rt: &impl Print, line: u64, kind: char, number: usize) {
     let _ = println!(rt; "line {line}, {kind}: answered {number}, and differs");
 }
 
-// Asks a question, and counts the answer; the expected texts are left on the line.
+// Asks a question, and counts the answer; the expected texts are left on the line. What is handed on here and below is no struct, since the tally is a
+// value that each answer gives anew, and the question differs from answer to answer.
 fn count_answer(
     rt: &impl Print,
     case: Case,
@@ -154,7 +156,8 @@ fn conclude(rt: &impl Print, tally: Tally) -> io::Result<()> {
     )
 }
 
-// Reads the list of cases. It takes the array as such, as `replay_first` does, since the prover runs out of stack where `main` lends a slice of it.
+// Reads the list of cases. It takes the array as such, as `replay_first` does: where `main` itself lends slices of it, the check gives no verdict on
+// `main`, since the prover runs out of stack there.
 fn read_list<R: Read>(from: &mut R, list: &mut [u8; 524288]) -> io::Result<usize>
     ensures bound { IfOk result (λ n. n ≤ length list.new) }
     ensures bytes { IfOk result (λ n. Consumes (R.remaining from.old) (R.remaining from.new) (take n list.new)) }

@@ -4,13 +4,13 @@ ghost use Rattle.std.specs.Prelude.{◌≤◌, ◌<◌, length, IfSome};
 
 use attribute::DisplayStyle;
 
-// The value of a digit, decimal or hexadecimal.
+// The value of a digit, decimal or hexadecimal. It is no `to_digit`, which takes capital letters too, and gives a u32 where lengths are wanted.
 fn digit(b: u8) -> Option<usize>
     ensures { IfSome result (λ d. d < 16) }
 {
     match b {
-        b'0'..=b'9' => Some((b - b'0') as usize),
-        b'a'..=b'f' => Some((b - b'a') as usize + 10),
+        b'0'..=b'9' => Some(usize::from(b - b'0')),
+        b'a'..=b'f' => Some(usize::from(b - b'a') + 10),
         _ => None,
     }
 }
@@ -32,7 +32,8 @@ pub fn decimal(line: &mut &[u8]) -> usize
     value
 }
 
-// A buffer that is filled from its front on; what finds no room in it is left out.
+// A buffer that is filled from its front on; what finds no room in it is left out. It is not text's `Output`, which wants the room to be shown before,
+// and no `Vec`, as there is no heap.
 #[derive(Drop)]
 pub struct Filled<'a> {
     pub bytes: &'a mut [u8],
@@ -54,6 +55,7 @@ impl<'a> Filled<'a> {
         }
     }
 
+    // Puts a piece, byte by byte, since there may be room for its front alone.
     pub fn put_piece(&mut self, piece: &[u8])
         ensures { self.old.end ≤ self.new.end }
     {
@@ -62,7 +64,7 @@ impl<'a> Filled<'a> {
         }
     }
 
-    // Puts the opening tag of a formula in its display.
+    // Puts the opening tag of a formula in its display. It is written out here, so that what is wanted does not come from the code that is judged.
     pub fn put_opening(&mut self, display: DisplayStyle)
         ensures { self.old.end ≤ self.new.end }
     {
@@ -98,7 +100,8 @@ impl<'a> Filled<'a> {
         }
     }
 
-    // Unpacks what a backquote begins: B and I an opening tag, a star a repetition, else a byte in hexadecimal, where what is no digit counts as 16.
+    // Unpacks what a backquote begins: B and I an opening tag, a star a repetition, else a byte in hexadecimal. What is no digit counts as 16, since
+    // the list has none behind a backquote, and any byte will do for it.
     fn unpack_mark(&mut self, line: &mut &[u8])
         ensures { (length line.new.now ≤ length line.old.now) × (self.old.end ≤ self.new.end) }
     {

@@ -7,7 +7,7 @@ use Rattle.text.proofs.Keys.{past}
 use Rattle.token.specs.declared.Undefined.{Undefined}
 use Rattle.ast.specs.Shape.{shapes, shape_of}
 use Rattle.markup.specs.Fronts.{front_one, back_one, front_two, back_two, front_three, back_three}
-use Rattle.markup.specs.Print.{character}
+use Rattle.markup.specs.Print.{character, letter_text}
 use Rattle.markup.specs.Own.{own_text}
 use Rattle.markup.proofs.ShortLaws.{fixed_short, character_short, operator_text_short, sized_end_short, letters_short, accent_short, display_short, line_short, align_short}
 use Rattle.leaves.proofs.LengthLaws.{width_small, tagged, tagged_last, own_number, own_letter, own_operator, own_function, own_name, own_space, own_stretched, own_stretched_text, own_other, own_sized, own_text_lem, own_ampersand, own_new_line, own_undefined, own_over, own_under, own_fenced, own_style, own_frac, own_matrix}
@@ -23,15 +23,28 @@ overflow_add-result-in-3 c =
     let e0 = ap length c.fixed_text.ensures in
     omega (arith, fixed_short c.args.dialect c.args.f.x)
 
-pub letter_text_len-requires : goal.letter_text_len-requires
+pub slice_bounds-letters_len-count : goal.slice_bounds-letters_len-count
 unfolding shape_of shapes
-letter_text_len-requires c =
-    let h = rw c.in-4.is at c.requires.0 in
-    (h.0, h.1, c.requires.1)
+slice_bounds-letters_len-count c = (rw c.in-4.is at c.requires.0).0
+
+pub slice_bounds-letters_len-start : goal.slice_bounds-letters_len-start
+unfolding shape_of shapes
+slice_bounds-letters_len-start c = (rw c.in-4.is at c.requires.0).0
+
+pub slice_bounds-letters_len-end : goal.slice_bounds-letters_len-end
+unfolding shape_of shapes
+slice_bounds-letters_len-end c = (rw c.in-4.is at c.requires.0).1
+
+pub letters_len-requires : goal.letters_len-requires
+unfolding letter_text
+letters_len-requires c =
+    let short = c.requires.1 in
+    omega (arith, letters_short c.args.dialect c.args.s.now c.args.f.x c.args.f.y)
 
 pub overflow_add-result-in-4 : goal.overflow_add-result-in-4
+unfolding letter_text
 overflow_add-result-in-4 c =
-    let e0 = c.letter_text_len.ensures in
+    let e0 = c.letters_len.ensures in
     let short = c.requires.1 in
     omega (arith, letters_short c.args.dialect c.args.s.now c.args.f.x c.args.f.y)
 
@@ -81,15 +94,28 @@ overflow_add-result-in-9-4 c =
     let e3 = ap length c.sized_end.ensures in
     omega (arith, fixed_short c.args.dialect c.args.f.x, fixed_short c.args.dialect c.args.f.y, sized_end_short c.args.dialect)
 
-pub letter_text_len-requires-in-10 : goal.letter_text_len-requires-in-10
+pub slice_bounds-letters_len-count-in-10 : goal.slice_bounds-letters_len-count-in-10
 unfolding shape_of shapes
-letter_text_len-requires-in-10 c =
-    let h = rw c.in-10.is at c.requires.0 in
-    (h.0, h.1, c.requires.1)
+slice_bounds-letters_len-count-in-10 c = (rw c.in-10.is at c.requires.0).0
+
+pub slice_bounds-letters_len-start-in-10 : goal.slice_bounds-letters_len-start-in-10
+unfolding shape_of shapes
+slice_bounds-letters_len-start-in-10 c = (rw c.in-10.is at c.requires.0).0
+
+pub slice_bounds-letters_len-end-in-10 : goal.slice_bounds-letters_len-end-in-10
+unfolding shape_of shapes
+slice_bounds-letters_len-end-in-10 c = (rw c.in-10.is at c.requires.0).1
+
+pub letters_len-requires-in-10 : goal.letters_len-requires-in-10
+unfolding letter_text
+letters_len-requires-in-10 c =
+    let short = c.requires.1 in
+    omega (arith, letters_short c.args.dialect c.args.s.now c.args.f.x c.args.f.y)
 
 pub overflow_add-result-in-10 : goal.overflow_add-result-in-10
+unfolding letter_text
 overflow_add-result-in-10 c =
-    let e0 = c.letter_text_len-in-10.ensures in
+    let e0 = c.letters_len-in-10.ensures in
     let short = c.requires.1 in
     omega (arith, letters_short c.args.dialect c.args.s.now c.args.f.x c.args.f.y)
 
@@ -203,9 +229,9 @@ returns-in-3 c =
     tagged c.args.dialect c.args.slashed c.args.s.now c.args.f 3 c.in-3.is (rw c.fixed_text.ensures (sym (own_function c.args.dialect c.args.slashed c.args.s.now c.args.f.x)))
 
 pub returns-in-4 : goal.returns-in-4
-unfolding shapes
+unfolding shapes letter_text
 returns-in-4 c =
-    tagged c.args.dialect c.args.slashed c.args.s.now c.args.f 4 c.in-4.is (rw c.letter_text_len.ensures (sym (own_name c.args.dialect c.args.slashed c.args.s.now c.args.f.x c.args.f.y)))
+    tagged c.args.dialect c.args.slashed c.args.s.now c.args.f 4 c.in-4.is (rw c.letters_len.ensures (sym (own_name c.args.dialect c.args.slashed c.args.s.now c.args.f.x c.args.f.y)))
 
 pub returns-in-5 : goal.returns-in-5
 unfolding shapes
@@ -233,9 +259,9 @@ returns-in-9 c =
     tagged c.args.dialect c.args.slashed c.args.s.now c.args.f 9 c.in-9.is (rw (c.fixed_text-in-9.ensures, c.fixed_text-in-9-2.ensures, c.fixed_text-in-9-3.ensures, c.sized_end.ensures) (sym (own_sized c.args.dialect c.args.slashed c.args.s.now c.args.f.x c.args.f.y)))
 
 pub returns-in-10 : goal.returns-in-10
-unfolding shapes
+unfolding shapes letter_text
 returns-in-10 c =
-    tagged c.args.dialect c.args.slashed c.args.s.now c.args.f 10 c.in-10.is (rw c.letter_text_len-in-10.ensures (sym (own_text_lem c.args.dialect c.args.slashed c.args.s.now c.args.f.x c.args.f.y)))
+    tagged c.args.dialect c.args.slashed c.args.s.now c.args.f 10 c.in-10.is (rw c.letters_len-in-10.ensures (sym (own_text_lem c.args.dialect c.args.slashed c.args.s.now c.args.f.x c.args.f.y)))
 
 pub returns-in-11 : goal.returns-in-11
 unfolding shapes
