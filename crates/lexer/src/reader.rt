@@ -1,4 +1,6 @@
 // The Rust's `Lexer`: a place in the caller's bytes, which it borrows. Its functions leave the work to the cursor.
+// That the place is inside is asked by `next_token` and is no ghost field: a reader is made in `token_from` alone, which asks for it too, and is read
+// there at once, so a field would say it a third time.
 ghost use Rattle.std.specs.Prelude.{◌≡◌, ◌≤◌, length, drop};
 ghost use Rattle.lexer.specs.Lex.{next_token};
 

@@ -1,12 +1,8 @@
 -- `parser::digit_or_token` meets its contract.
 use borrow.Enum.Refused.{opened}
-use Rattle.parser.proofs.DigitLaws.{among_others, number_inside, digit_taken, token_left, number_left}
+use Rattle.parser.proofs.DigitLaws.{among_others, digit_taken, token_left, number_left}
 use native.Mathlib.Omega.{arith}
 use Rattle.parser.proofs.digit_or_token.Goals as goal
-
-pub overflow_add-end : goal.overflow_add-end
-overflow_add-end c =
-    omega (arith, number_inside c.args.s.now c.args.at _ c.token_from-next.ensures.0 c.in-Number.is)
 
 pub returns-in-Number : goal.returns-in-Number
 returns-in-Number c =

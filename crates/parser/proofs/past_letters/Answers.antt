@@ -1,12 +1,9 @@
 -- `parser::past_letters` meets its contract.
 use borrow.Enum.Refused.{opened}
 use Rattle.lexer.proofs.LettersLaws.{no_letter}
-use Rattle.parser.proofs.TextLaws.{passing_none, passing_all, passing_more, passing_less}
+use Rattle.parser.proofs.TextLaws.{passing_all, passing_more, passing_less}
 use native.Mathlib.Omega.{arith}
 use Rattle.parser.proofs.past_letters.Goals as goal
-
-pub loop-l-init : goal.loop-l-init
-loop-l-init c = let n = c.letter_or_token-l in passing_none c.requires n.ensures.0 n.ensures.1
 
 pub loop-l-preserved : goal.loop-l-preserved
 loop-l-preserved c =

@@ -1,10 +1,7 @@
-use mathlib.Core.Path.{refl, sym, ◌∙◌}
+use mathlib.Core.Path.{sym, ◌∙◌}
 use Rattle.text.proofs.AnyLaws.{any_here, any_more, any_end}
 use Rattle.text.proofs.any.Goals as goal
 use Rattle.text.proofs.any.Goals.{then-passes, else-passes}
-
-pub loop-b-init : goal.loop-b-init
-loop-b-init g c = λ test is. refl
 
 pub loop-b-preserved : goal.loop-b-preserved
 loop-b-preserved g c =

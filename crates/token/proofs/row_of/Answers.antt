@@ -3,9 +3,6 @@ use Rattle.token.proofs.RowLaws.{not_first, has_row}
 use native.Mathlib.Omega.{arith}
 use Rattle.token.proofs.row_of.Goals as goal
 
-pub loop-at-init : goal.loop-at-init
-loop-at-init c = λ i h l m. l
-
 pub loop-at-preserved : goal.loop-at-preserved
 loop-at-preserved c =
     λ i h l m. not_first i c.loop-at.at h (c.loop-at.invariant i h l m) c.loop-at-test.true (omega (arith, c.word_at.ensures))

@@ -14,10 +14,6 @@ loop-lo-init c =
 pub row_of-at-requires : goal.row_of-at-requires
 row_of-at-requires c = omega (arith, table_length)
 
-pub compare-requires : goal.compare-requires
-compare-requires c =
-    ((c.row_of-at.ensures.0, c.row_of-at.ensures.1.row), c.pack-first.ensures)
-
 pub loop-lo-preserved-in-Less : goal.loop-lo-preserved-in-Less
 loop-lo-preserved-in-Less c =
     let has = c.row_of-at.ensures.1 in
@@ -29,11 +25,6 @@ returns-in-Equal c =
     let has = c.row_of-at.ensures.1 in
     let here = sym (c.compare.ensures c.row_of-at.ensures.0 has.row) ∙ c.in-Equal.is in
     (c.row_of-at.ensures.0, has.row, cmp_equal _ _ here)
-
-pub loop-lo-smaller : goal.loop-lo-smaller
-loop-lo-smaller c =
-    let has = c.row_of-at.ensures.1 in
-    omega (arith, has.from)
 
 pub loop-lo-preserved : goal.loop-lo-preserved
 loop-lo-preserved c =

@@ -5,9 +5,6 @@ use Rattle.ast.proofs.VariantLaws.{sets_letter, sets_none, goes_row, goes_next, 
 use native.Mathlib.Omega.{arith}
 use Rattle.ast.proofs.variant.+set_variant.Goals as goal
 
-pub set_attr-requires : goal.set_attr-requires
-set_attr-requires t c = c.requires.0.fits
-
 pub returns-in-Letter : goal.returns-in-Letter
 returns-in-Letter t c =
     let e = ap (λ q. role_of (shape_of (fields_of q))) (sym c.get_record-r.ensures.0) ∙ sym c.role_of.ensures ∙ c.in-Letter.is in

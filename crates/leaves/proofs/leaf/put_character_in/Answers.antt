@@ -1,11 +1,7 @@
 -- `leaves::leaf::put_character_in` meets its contract.
 use Rattle.markup.specs.Print.{character}
-use Rattle.text.proofs.PutLaws.{room_1, room_2, room_3, puts_3}
+use Rattle.text.proofs.PutLaws.{room_2, room_3, puts_3}
 use Rattle.leaves.proofs.leaf.put_character_in.Goals as goal
-
-pub put-requires : goal.put-requires
-unfolding character
-put-requires c = room_1 (c.args.front.now) (character c.args.dialect c.args.c) (c.args.back.now) c.requires
 
 pub put_character-requires : goal.put_character-requires
 unfolding character

@@ -1,9 +1,6 @@
 -- `leaves::leaf::put_in` meets its contract.
-use Rattle.text.proofs.PutLaws.{room_1, room_2, room_3, puts_3}
+use Rattle.text.proofs.PutLaws.{room_2, room_3, puts_3}
 use Rattle.leaves.proofs.leaf.put_in.Goals as goal
-
-pub put-requires : goal.put-requires
-put-requires c = room_1 (c.args.front.now) (c.args.text.now) (c.args.back.now) c.requires
 
 pub put-requires-2 : goal.put-requires-2
 put-requires-2 c = room_2 (c.args.front.now) (c.args.text.now) (c.args.back.now) c.requires c.put.ensures

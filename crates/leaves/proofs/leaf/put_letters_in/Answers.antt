@@ -1,11 +1,8 @@
 -- `leaves::leaf::put_letters_in` meets its contract.
 use Rattle.text.specs.Xml.{in_text}
 use Rattle.lexer.specs.Letters.{letters, encode_all}
-use Rattle.text.proofs.PutLaws.{room_1, room_2, room_3, puts_3}
+use Rattle.text.proofs.PutLaws.{room_2, room_3, puts_3}
 use Rattle.leaves.proofs.leaf.put_letters_in.Goals as goal
-
-pub put-requires : goal.put-requires
-put-requires c = room_1 (c.args.front.now) (in_text c.args.dialect (encode_all (letters c.args.text.now))) (c.args.back.now) c.requires
 
 pub put_letters-requires : goal.put_letters-requires
 put_letters-requires c = room_2 (c.args.front.now) (in_text c.args.dialect (encode_all (letters c.args.text.now))) (c.args.back.now) c.requires c.put.ensures

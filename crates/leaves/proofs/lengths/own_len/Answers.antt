@@ -9,19 +9,14 @@ use Rattle.ast.specs.Shape.{shapes, shape_of}
 use Rattle.markup.specs.Fronts.{front_one, back_one, front_two, back_two, front_three, back_three}
 use Rattle.markup.specs.Print.{character, letter_text}
 use Rattle.markup.specs.Own.{own_text}
-use Rattle.markup.proofs.ShortLaws.{fixed_short, character_short, operator_text_short, sized_end_short, letters_short, accent_short, display_short, line_short, align_short}
-use Rattle.leaves.proofs.LengthLaws.{width_small, tagged, tagged_last, own_number, own_letter, own_operator, own_function, own_name, own_space, own_stretched, own_stretched_text, own_other, own_sized, own_text_lem, own_ampersand, own_new_line, own_undefined, own_over, own_under, own_fenced, own_style, own_frac, own_matrix}
+use Rattle.markup.proofs.ShortLaws.{fixed_short, character_short, operator_text_short, sized_end_short, letters_short, accent_short, display_short, align_short}
+use Rattle.leaves.proofs.LengthLaws.{tagged, tagged_last, own_number, own_letter, own_operator, own_function, own_name, own_space, own_stretched, own_stretched_text, own_other, own_sized, own_text_lem, own_ampersand, own_new_line, own_undefined, own_over, own_under, own_fenced, own_style, own_frac, own_matrix}
 use native.Mathlib.Omega.{arith}
 use Rattle.leaves.proofs.lengths.own_len.Goals as goal
 
 pub overflow_sub-result : goal.overflow_sub-result
 unfolding shape_of shapes
 overflow_sub-result c = (rw c.in-0.is at c.requires.0).0
-
-pub overflow_add-result-in-3 : goal.overflow_add-result-in-3
-overflow_add-result-in-3 c =
-    let e0 = ap length c.fixed_text.ensures in
-    omega (arith, fixed_short c.args.dialect c.args.f.x)
 
 pub slice_bounds-letters_len-count : goal.slice_bounds-letters_len-count
 unfolding shape_of shapes
@@ -48,30 +43,10 @@ overflow_add-result-in-4 c =
     let short = c.requires.1 in
     omega (arith, letters_short c.args.dialect c.args.s.now c.args.f.x c.args.f.y)
 
-pub overflow_add-result-in-5 : goal.overflow_add-result-in-5
-overflow_add-result-in-5 c =
-    let e0 = ap length c.width_of.ensures in
-    omega (arith, width_small c.args.f.x)
-
 pub overflow_add-result-in-6 : goal.overflow_add-result-in-6
 overflow_add-result-in-6 c =
     let e0 = c.operator_text_len.ensures in
     omega (arith, operator_text_short c.args.dialect c.args.f.x)
-
-pub overflow_add-result-in-7 : goal.overflow_add-result-in-7
-overflow_add-result-in-7 c =
-    let e0 = ap length c.fixed_text-in-7.ensures in
-    omega (arith, fixed_short c.args.dialect c.args.f.x)
-
-pub overflow_add-result-in-8 : goal.overflow_add-result-in-8
-overflow_add-result-in-8 c =
-    let e0 = ap length c.fixed_text-in-8.ensures in
-    omega (arith, fixed_short c.args.dialect c.args.f.x)
-
-pub overflow_add-result-in-9 : goal.overflow_add-result-in-9
-overflow_add-result-in-9 c =
-    let e0 = ap length c.fixed_text-in-9.ensures in
-    omega (arith, fixed_short c.args.dialect c.args.f.x)
 
 pub overflow_add-result-in-9-2 : goal.overflow_add-result-in-9-2
 overflow_add-result-in-9-2 c =
@@ -119,39 +94,9 @@ overflow_add-result-in-10 c =
     let short = c.requires.1 in
     omega (arith, letters_short c.args.dialect c.args.s.now c.args.f.x c.args.f.y)
 
-pub undefined_len-requires : goal.undefined_len-requires
-unfolding shape_of shapes
-undefined_len-requires c = (rw c.in-13.is at c.requires.0, c.requires.1)
-
-pub undefined_len-requires-in-14 : goal.undefined_len-requires-in-14
-unfolding shape_of shapes
-undefined_len-requires-in-14 c = (rw c.in-14.is at c.requires.0, c.requires.1)
-
-pub undefined_len-requires-in-15 : goal.undefined_len-requires-in-15
-unfolding shape_of shapes
-undefined_len-requires-in-15 c = (rw c.in-15.is at c.requires.0, c.requires.1)
-
-pub undefined_len-requires-in-16 : goal.undefined_len-requires-in-16
-unfolding shape_of shapes
-undefined_len-requires-in-16 c = (rw c.in-16.is at c.requires.0, c.requires.1)
-
-pub undefined_len-requires-in-17 : goal.undefined_len-requires-in-17
-unfolding shape_of shapes
-undefined_len-requires-in-17 c = (rw c.in-17.is at c.requires.0, c.requires.1)
-
-pub undefined_len-requires-in-18 : goal.undefined_len-requires-in-18
-unfolding shape_of shapes
-undefined_len-requires-in-18 c = (rw c.in-18.is at c.requires.0, c.requires.1)
-
 pub undefined_len-requires-in-19 : goal.undefined_len-requires-in-19
 unfolding shape_of shapes
 undefined_len-requires-in-19 c = (rw c.in-19.is at c.requires.0, c.requires.1)
-
-pub overflow_add-result-in-20 : goal.overflow_add-result-in-20
-overflow_add-result-in-20 c =
-    let e0 = ap length c.name.ensures in
-    let k0 = accent_short c.from-in-20.result in
-    omega arith
 
 pub overflow_add-result-in-20-2 : goal.overflow_add-result-in-20-2
 unfolding character
@@ -160,12 +105,6 @@ overflow_add-result-in-20-2 c =
     let k0 = accent_short c.from-in-20.result in
     let e1 = c.character_len.ensures in
     let k1 = character_short c.args.dialect c.args.f.x in
-    omega arith
-
-pub overflow_add-result-in-21 : goal.overflow_add-result-in-21
-overflow_add-result-in-21 c =
-    let e0 = ap length c.name-in-21.ensures in
-    let k0 = accent_short c.from-in-21.result in
     omega arith
 
 pub overflow_add-result-in-21-2 : goal.overflow_add-result-in-21-2
@@ -177,11 +116,6 @@ overflow_add-result-in-21-2 c =
     let k1 = character_short c.args.dialect c.args.f.x in
     omega arith
 
-pub overflow_add-result-in-23 : goal.overflow_add-result-in-23
-overflow_add-result-in-23 c =
-    let e0 = ap length c.fixed_text-in-23.ensures in
-    omega (arith, fixed_short c.args.dialect c.args.f.x)
-
 pub overflow_add-result-in-23-2 : goal.overflow_add-result-in-23-2
 overflow_add-result-in-23-2 c =
     let e0 = ap length c.fixed_text-in-23.ensures in
@@ -192,12 +126,6 @@ pub overflow_add-result-in-25 : goal.overflow_add-result-in-25
 overflow_add-result-in-25 c =
     let e0 = c.display_len.ensures in
     let k0 = display_short c.from-in-25.result in
-    omega arith
-
-pub overflow_add-result-in-32 : goal.overflow_add-result-in-32
-overflow_add-result-in-32 c =
-    let e0 = ap length c.attribute.ensures in
-    let k0 = line_short c.from-in-32.result in
     omega arith
 
 pub overflow_add-result-in_default : goal.overflow_add-result-in_default

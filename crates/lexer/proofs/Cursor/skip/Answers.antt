@@ -1,10 +1,7 @@
-use mathlib.Core.Path.{refl, sym}
+use mathlib.Core.Path.{sym}
 use Rattle.lexer.proofs.RunLaws.{run_more, run_stop, run_end}
 use native.Mathlib.Omega.{arith}
 use Rattle.lexer.proofs.Cursor.skip.Goals as goal
-
-pub loop-i-init : goal.loop-i-init
-loop-i-init g c = λ test is. refl
 
 pub returns-then-not-passes-clause-run : goal.returns-then-not-passes-clause-run
 returns-then-not-passes-clause-run g c =

@@ -13,7 +13,6 @@ use Rattle.token.specs.Texts.{texts, text}
 use Rattle.token.specs.declared.Token.{Token}
 use Rattle.lexer.specs.Lex.{is_digit, punctuation, of_character, token_at}
 use Rattle.lexer.proofs.ClassLaws.{Class, below, digits, between, upper, amid, lower, above}
-use Rattle.lexer.proofs.NameLaws.{assigns_inside}
 use Rattle.lexer.proofs.TokenLaws.{token_character, token_number, token_command, token_colon, token_assigns, token_letter, token_operator, low_rest, high_rest, head_inside, marks}
 use Rattle.lexer.proofs.AlphabeticLaws.{no_mark}
 use native.Mathlib.Omega.{arith}
@@ -23,10 +22,6 @@ use Rattle.lexer.proofs.Cursor.token_at.Goals.{in-33-1, in_default+else-c-lt38+t
 pub overflow_add-end : goal.overflow_add-end
 overflow_add-end c =
     omega (arith, ap (λ q. q.width) c.code_point-p.ensures, point_inside c.args.s.now c.args.self.at c.requires)
-
-pub overflow_add-at : goal.overflow_add-at
-overflow_add-at c =
-    omega (arith, assigns_inside c.args.s.now c.args.self.at c.requires (sym c.assigns.ensures ∙ c.if-assigns.true))
 
 pub returns-then-assigns : goal.returns-then-assigns
 unfolding text texts

@@ -6,7 +6,7 @@ use Rattle.print.proofs.PieceLaws.{able_like, prints_like, between_front, betwee
 use Rattle.print.proofs.ShownLaws.{one_shown, two_shown, three_shown, row_shown, matrix_shown}
 use Rattle.print.proofs.PartsLaws.{two_first, two_second, two_done, three_first, three_others, three_done}
 use Rattle.print.proofs.TreeLaws.{of_kind}
-use Rattle.print.proofs.RowLaws.{going_start, going_node, going_next, going_done}
+use Rattle.print.proofs.RowLaws.{going_node, going_next, going_done}
 use native.Mathlib.Omega.{arith}
 use Rattle.print.proofs.Source.+printer.Goals as goal
 
@@ -29,60 +29,31 @@ unfolding text_opens
 print_matrix-returns t c =
     between_prints (matrix_shown c.args.self.now.dialect c.args.self.now.body.now c.args.align) c.put_front_matrix.ensures c.print_nodes.ensures c.put.ensures
 
-pub print_node-get_record-r-requires : goal.print_node-get_record-r-requires
-print_node-get_record-r-requires t c =
-    c.requires.there.fits
-
 pub print_node-put_leaf-requires : goal.print_node-put_leaf-requires
 unfolding shown print
 print_node-put_leaf-requires t c =
     let p = able_like (of_kind c.args.self.now.dialect c.args.place (Shape.Leaf _) c.get_record-r.ensures.0 c.from.ensures c.in-Leaf.is) c.requires in
     (p.there, p.room)
 
-pub print_node-overflow_sub-left : goal.print_node-overflow_sub-left
-print_node-overflow_sub-left t c =
-    let near = c.requires.there.near in
-    omega arith
-
 pub print_node-print_one-requires : goal.print_node-print_one-requires
 print_node-print_one-requires t c =
     let pre = c.requires in
     (omega arith, able_like (of_kind c.args.self.now.dialect c.args.place (Shape.One _) c.get_record-r.ensures.0 c.from.ensures c.in-One.is) pre)
-
-pub print_node-overflow_sub-left-in-Two : goal.print_node-overflow_sub-left-in-Two
-print_node-overflow_sub-left-in-Two t c =
-    let near = c.requires.there.near in
-    omega arith
 
 pub print_node-print_two-requires : goal.print_node-print_two-requires
 print_node-print_two-requires t c =
     let pre = c.requires in
     (omega arith, able_like (of_kind c.args.self.now.dialect c.args.place (Shape.Two _) c.get_record-r.ensures.0 c.from.ensures c.in-Two.is) pre)
 
-pub print_node-overflow_sub-left-in-Three : goal.print_node-overflow_sub-left-in-Three
-print_node-overflow_sub-left-in-Three t c =
-    let near = c.requires.there.near in
-    omega arith
-
 pub print_node-print_three-requires : goal.print_node-print_three-requires
 print_node-print_three-requires t c =
     let pre = c.requires in
     (omega arith, able_like (of_kind c.args.self.now.dialect c.args.place (Shape.Three _) c.get_record-r.ensures.0 c.from.ensures c.in-Three.is) pre)
 
-pub print_node-overflow_sub-left-in-Row : goal.print_node-overflow_sub-left-in-Row
-print_node-overflow_sub-left-in-Row t c =
-    let near = c.requires.there.near in
-    omega arith
-
 pub print_node-print_row-requires : goal.print_node-print_row-requires
 print_node-print_row-requires t c =
     let pre = c.requires in
     (omega arith, able_like (of_kind c.args.self.now.dialect c.args.place (Shape.Row _) c.get_record-r.ensures.0 c.from.ensures c.in-Row.is) pre)
-
-pub print_node-overflow_sub-left-in-Matrix : goal.print_node-overflow_sub-left-in-Matrix
-print_node-overflow_sub-left-in-Matrix t c =
-    let near = c.requires.there.near in
-    omega arith
 
 pub print_node-print_matrix-requires : goal.print_node-print_matrix-requires
 print_node-print_matrix-requires t c =
@@ -113,9 +84,6 @@ print_node-returns-in-Row t c =
 pub print_node-returns-in-Matrix : goal.print_node-returns-in-Matrix
 print_node-returns-in-Matrix t c =
     prints_like (of_kind c.args.self.now.dialect c.args.place (Shape.Matrix _ _) c.get_record-r.ensures.0 c.from.ensures c.in-Matrix.is) c.print_matrix.ensures
-
-pub print_nodes-loop-init : goal.print_nodes-loop-init
-print_nodes-loop-init t c = going_start c.requires
 
 pub print_nodes-print_node-requires : goal.print_nodes-print_node-requires
 print_nodes-print_node-requires t c = (omega arith, going_node c.loop.invariant c.loop-test.true)
