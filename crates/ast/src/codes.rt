@@ -1,5 +1,5 @@
-// What node a record is, to and from the numbers that it holds. The tags are the bytes of the lent store, and stand here once each way. Who
-// asks a record's kind asks its tag: by `Shape` it was measured slower (docs/DECISIONS.md, 74).
+// What node a record is, to and from the numbers that it holds: a node's tag is a byte of the lent store. `sum`, and `leaves::lengths` above, ask a
+// record's tag too, and not its `Shape`: by `Shape` pages took 11 to 21 % longer, measured on an older toolchain (docs/DECISIONS.md, 74).
 ghost use Rattle.std.specs.Prelude.{◌≡◌, ◌^◌, ◌<◌};
 ghost use Rattle.ast.specs.Shape.{numbers, leaf_fields, one_fields, two_fields, three_fields, fields, shape_of, role_of, is_matrix, fields_of, Placed};
 
@@ -184,18 +184,20 @@ impl From<Record> for Shape {
 }
 
 // The role of the node that a record is, which takes less of the record than the node does.
-#[tactic(auto, unfolding(crate::specs::Shape::shape_of, crate::specs::Shape::shapes))]
-pub fn role_of(r: Record) -> Role
-    ensures { result ≡ role_of (shape_of (fields_of r)) }
-{
-    let tag = r.tag;
-    let x = r.x;
-    match tag {
-        1 => Role::Letter,
-        2 => Role::Operator(x),
-        8 => Role::OtherOperator(x),
-        35 => Role::Row(x),
-        _ => Role::Other,
+impl From<Record> for Role {
+    ghost from_gives = { λ r k. k ≡ role_of (shape_of (fields_of r)) };
+
+    #[tactic(auto, unfolding(crate::specs::Shape::shape_of, crate::specs::Shape::shapes))]
+    fn from(r: Record) -> Role {
+        let tag = r.tag;
+        let x = r.x;
+        match tag {
+            1 => Role::Letter,
+            2 => Role::Operator(x),
+            8 => Role::OtherOperator(x),
+            35 => Role::Row(x),
+            _ => Role::Other,
+        }
     }
 }
 

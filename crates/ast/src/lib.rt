@@ -14,7 +14,8 @@
 //     bytes 20..24   kept free for a span
 //
 // The store is memory that C lends and there is no heap, so a record names others by their indices. Each caller lends the store on, so each
-// contract says how long it is.
+// contract says how long it is. An index is a usize, as a place in the store is reckoned from it, and a contract says where it must fit into its two
+// bytes: as a u16 it would be widened at each use, and what narrows the number of the records made would owe the same bound.
 #![tactic(auto)]
 
 pub mod codes;
@@ -26,7 +27,8 @@ pub mod variant;
 use attribute::{Accent, ColumnAlign, DisplayStyle, LineThickness, Variant};
 use token::Undefined;
 
-// A record of the store.
+// A record of the store, field by field as its bytes are: the four that say what node it is lie on both sides of the indices, and are `Fields`
+// by themselves.
 #[derive(Clone, Copy)]
 pub struct Record {
     pub tag: u8,
@@ -46,7 +48,7 @@ pub enum Stretched {
     Fixed(u32),
 }
 
-// The nodes with no part. A number is a code point, the number of a fixed text or of a width; two are places in the body, and of a
+// The nodes with no part. A number is a code point, the number of a fixed text or of a width; two are places in the body, as in a `Token`, and of a
 // `SizedParen` the numbers of its size and of its text.
 #[derive(Clone, Copy)]
 pub enum Leaf {
@@ -106,7 +108,8 @@ pub enum Shape {
     Matrix(ColumnAlign, u32),
 }
 
-// What `set_variant`, `\middle` and an environment ask of a node: the number of an operator, and the number of a row's nodes.
+// What `set_variant`, `\middle` and an environment ask of a node: the number of an operator, and the number of a row's nodes. A node of which none
+// of them asks anything is `Other`, as in the definition: each of them has one arm for it and for the roles that it does not ask for.
 #[derive(Clone, Copy)]
 pub enum Role {
     Letter,

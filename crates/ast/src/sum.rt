@@ -1,12 +1,11 @@
 // What the records tell as they lie in the store: which of them the finished tree does not hold, and the marks of a matrix. A record's
-// kind is asked by its tag, so that reading a node has one caller, the printer, where it costs nothing: with a second it was measured slower
-// (docs/DECISIONS.md, 74).
+// kind is asked by its tag, so that reading a node has one caller, the printer, where it costs nothing: with a second caller pages took 11 to 21 %
+// longer, measured on an older toolchain (docs/DECISIONS.md, 74).
 ghost use Rattle.std.specs.Prelude.{◌≡◌, ◌+◌, ◌*◌, ◌≤◌, ◌<◌, length};
 ghost use Rattle.ast.specs.Shape.{fields_of, shape_of, role_of};
 ghost use Rattle.ast.specs.Held.{is_row};
 ghost use Rattle.ast.specs.Sum.{fate, fate_at, marks, mark_sum, cells, Chain};
 
-use crate::codes::role_of;
 use crate::store::get_record;
 use crate::{Fate, Marks, Record, Role};
 
@@ -23,7 +22,7 @@ fn fate_by(behind: Record, r: Record) -> Fate
     match behind.tag {
         6 | 7 => Fate::Dropped,
         24 => Fate::Slashed,
-        36.. if is_row(role_of(r)) => Fate::Dropped,
+        36.. if is_row(Role::from(r)) => Fate::Dropped,
         _ => Fate::Counted,
     }
 }

@@ -3,7 +3,6 @@ ghost use Rattle.std.specs.Prelude.{◌≡◌, ◌<◌};
 ghost use Rattle.ast.specs.Turned.{Stored, Sets, row_count};
 
 use crate::Role;
-use crate::codes::role_of;
 use crate::store::{get_next, get_record, set_attr};
 use attribute::Variant;
 
@@ -14,7 +13,7 @@ pub fn set_variant(store: &mut [u8], i: usize, v: Variant, left: usize)
     ensures { Sets store.old store.new i v }
 {
     let r = get_record(store, i);
-    match role_of(r) {
+    match Role::from(r) {
         Role::Letter => set_attr(store, i, u8::from(v)),
         Role::Row(n) => {
             let mut k = r.a;

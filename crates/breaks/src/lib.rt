@@ -23,7 +23,8 @@ fn line_end(s: &[u8], i: usize) -> Option<usize>
 }
 
 // The place of the first line feed from a place on that a blank line follows, a line end directly behind it. What stands before a line
-// feed matters at breaks alone, so it is not looked at here.
+// feed matters at breaks alone, so it is not looked at here. Each search begins behind the line feed that the last one found, so the place is moved
+// by hand.
 fn next_blank(s: &[u8], from: usize) -> Option<usize>
     requires { from ≤ length s.now }
     ensures { Finds (λ l. line_feed l && two_line_ends l) s.now from result }
@@ -63,7 +64,8 @@ pub fn break_end(s: &[u8], from: usize) -> usize
     i
 }
 
-// The number of paragraphs. Where a break ends is found from its first line feed on, so where it begins is not looked for.
+// The number of paragraphs. Where a break ends is found from its first line feed on, so where it begins is not looked for. The turns are counted by hand,
+// since the next break is known only behind the last, and no iterator of std finds it.
 pub fn count_paragraphs(document: &[u8]) -> usize
     ensures { result ≡ paragraphs (pieces document.now) }
 {

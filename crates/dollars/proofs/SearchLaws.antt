@@ -6,13 +6,16 @@ use mathlib.Core.List.{List, [], ◌∷◌}
 use Prim.Native.Nat.{ℕ, zero, suc, ◌+◌, ◌-◌, ◌*◌, ◌/◌, ◌%◌, ◌≤◌, ◌<◌}
 use native.Mathlib.Nat.{mod-lt, lt_of_le_of_lt, add-zero, div-div-eq-div-mul}
 use native.Mathlib.Omega.{arith}
-use lib.Dec.{eqb, lit<}
+use lib.Dec.{eqb, ltb, lit<}
 use lib.Arith.{digits_div, digits_mod}
 use lib.ListN.{length, take, drop, get_or, length-drop, drop_of_length-le, get_or-eq_default}
 use lib.Seq.{drop-cons, drop-drop}
 use lib.Pow.{pow_pos, split}
 use lib.Bits.{bit_and, bit_or, bit_xor, and_block, or_block, xor_block, and_le_l, and_le_r, and_zero_r, or_lt, xor_lt, xor_self, xor_add_and}
-use borrow.Author.Tests.{eqb-true, eqb-false, eq-eqb, ne_eqb}
+use borrow.Author.Tests.{eqb-true, eqb-false, eq-eqb, ne_eqb, ltb-true, ltb-false}
+use Rattle.std.specs.Prelude.{Option, Some, None, is_some, IfSome}
+use Rattle.std.specs.Borrow.{Bor}
+use Rattle.std.specs.Option.{option_eq}
 use Rattle.std.specs.Int.{w64, to_le_bytes, from_le_bytes}
 use Rattle.std.specs.Simd.{first_chunks}
 use Rattle.std.proofs.lemmas.List.{take_rest}
@@ -156,21 +159,27 @@ module _ (s : List ℕ) (from : ℕ) (h : from ≤ length s) where
       (omega arith, ap (λ (z : List (List ℕ)). get_or z k []) e ∙ chunk_at (length rest / 8) rest k (omega arith) ∙ ap (take 8) there)
 
 -- a byte is at the head where it stands
-starts_at : (b : ℕ) (s : List ℕ) (i : ℕ) → i < length s → starts_with b (drop i s) ≡ eqb (get_or s i 0) b
+starts_at : (b : ℕ) (s : List ℕ) (i d : ℕ) → i < length s → starts_with b (drop i s) ≡ eqb (get_or s i d) b
 unfolding starts_with
-starts_at b s i h = rw (drop-cons s i 0 h)
+starts_at b s i d h = rw (drop-cons s i d h)
 
 module _ (b : ℕ) (s : List ℕ) (i : ℕ) (h : i < length s) where
   pub starts_is : get_or s i 0 ≡ b → starts_with b (drop i s) ≡ true
-  starts_is e = starts_at b s i h ∙ eq-eqb _ _ e
+  starts_is e = starts_at b s i 0 h ∙ eq-eqb _ _ e
 
   pub starts_not : (get_or s i 0 ≡ b → ⊥) → starts_with b (drop i s) ≡ false
-  starts_not e = starts_at b s i h ∙ ne_eqb _ _ e
+  starts_not e = starts_at b s i 0 h ∙ ne_eqb _ _ e
 
 -- no byte stands behind the end
 pub starts_end : (b : ℕ) (s : List ℕ) (i : ℕ) → length s ≤ i → starts_with b (drop i s) ≡ false
 unfolding starts_with
 starts_end b s i h = rw (drop_of_length-le s h)
+
+-- a byte is at the head where the one that `get` finds is it
+pub starts_found : (b : ℕ) (s : List ℕ) (i : ℕ) (found : Option (Bor ℕ)) (q : Bor ℕ) → q.now ≡ b → is_some found ≡ ltb i (length s)
+    → IfSome found (λ x. x.now ≡ get_or s i x.now) → option_eq (λ x y. eqb x.now y.now) found (Some q) ≡ starts_with b (drop i s)
+starts_found b s i None q e none is = sym (starts_end b s i (ltb-false i (length s) (sym none)))
+starts_found b s i (Some x) q e some is = rw (e, starts_at b s i x.now (ltb-true i (length s) (sym some)), ← is) refl
 
 pair_at : (b : ℕ) (s : List ℕ) (i : ℕ) (x y : Bool) → starts_with b (drop i s) ≡ x → starts_with b (drop (i + 1) s) ≡ y → pair b (drop i s) ≡ (x && y)
 unfolding pair

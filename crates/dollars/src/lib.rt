@@ -1,4 +1,5 @@
-// The dollars of a document. A search is given a text and a place in it, as in `search`, so that each answer is a place of the whole text.
+// The dollars of a document. A search is given a text and a place in it, as in `search`, so that each answer is a place of the whole text. A walk
+// from mark to mark goes on behind the place that it found, so there is nothing to count, and no iterator of std knows the search.
 #![tactic(auto)]
 
 pub mod search;
@@ -7,7 +8,7 @@ ghost use Rattle.std.specs.Prelude.{◌≡◌, ◌≤◌, ltb, length};
 ghost use Rattle.dollars.specs.Dollars.{dollar, two_dollars, three_dollars, mark, width, unusual, is_prose};
 ghost use Rattle.dollars.specs.Places.{places, odd, Finds};
 
-use crate::search::{next_byte, next_pair};
+use crate::search::{next_byte, next_pair, stands_at};
 use text::contains;
 
 // What stands before and behind a formula: one dollar or two.
@@ -113,7 +114,7 @@ pub fn three_dollars(s: &[u8]) -> bool
     let mut i = 0;
     while let Some(first) = next_mark(s, i, Delimiter::Double) {
         i = first + 1;
-        if first + 2 < s.len() && s[first + 2] == b'$' {
+        if stands_at(s, first + 2, b'$') {
             return true;
         }
     }

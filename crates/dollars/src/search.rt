@@ -44,7 +44,15 @@ pub fn next_byte(s: &[u8], from: usize, b: u8) -> Option<usize>
     None
 }
 
-// The place of the first two b side by side from a place on.
+// Whether a byte stands at a place; behind the end none does.
+pub(crate) fn stands_at(s: &[u8], i: usize, b: u8) -> bool
+    ensures { result ≡ starts_with b (drop i s.now) }
+{
+    s.get(i) == Some(&b)
+}
+
+// The place of the first two b side by side from a place on. Each search begins behind the place that the last one found, so the place is moved by
+// hand.
 pub fn next_pair(s: &[u8], from: usize, b: u8) -> Option<usize>
     requires { from ≤ length s.now }
     ensures { Finds (pair b) s.now from result }
@@ -52,7 +60,7 @@ pub fn next_pair(s: &[u8], from: usize, b: u8) -> Option<usize>
     let mut i = from;
     while let Some(first) = next_byte(s, i, b) {
         i = first + 1;
-        if i < s.len() && s[i] == b {
+        if stands_at(s, i, b) {
             return Some(first);
         }
     }

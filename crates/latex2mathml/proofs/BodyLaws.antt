@@ -1,15 +1,13 @@
 -- The markup of a body that is parsed: measured, then written.
 -- Assumes nothing.
 use mathlib.Core.Path.{◌≡◌, ◌∙◌, ap}
-use mathlib.Core.Bool.{Bool, true, false}
+use mathlib.Core.Bool.{Bool, true}
 use mathlib.Core.List.{List}
 use Prim.Native.Nat.{ℕ, ◌+◌, ◌^◌, ◌≤◌, ◌<◌}
 use native.Mathlib.Omega.{arith}
 use native.Mathlib.Nat.{le_refl}
 use lib.ListN.{length}
 use Rattle.std.specs.Prelude.{Ok, Err}
-use Rattle.text.specs.Utf8.{well_formed}
-use Rattle.text.specs.Any.{has_nul}
 use Rattle.text.specs.Put.{RoomAt, PutsAt}
 use Rattle.attribute.specs.declared.DisplayStyle.{DisplayStyle}
 use Rattle.error.specs.declared.Refusal.{Refusal}
@@ -20,7 +18,7 @@ use Rattle.print.specs.Measure.{Measurable}
 use Rattle.print.specs.Shown.{NodesAt}
 use Rattle.latex2mathml.specs.declared.Manner.{Manner}
 use Rattle.latex2mathml.specs.Outcome.{accepted}
-use Rattle.latex2mathml.specs.Translate.{in_math, translate}
+use Rattle.latex2mathml.specs.Translate.{checked, in_math, translate}
 use Rattle.latex2mathml.specs.Replace.{translate_body}
 use Rattle.latex2mathml.specs.Written.{PrintableAt, PrintsAt, read_nodes, MathLong, Gives}
 use Rattle.latex2mathml.specs.Laid.{RoomFor, LaidThere}
@@ -95,17 +93,17 @@ module _ {s st : List ℕ} {first n hi : ℕ} (manner : Manner) (store : ℕ) (b
       pub able_write : (o : List ℕ) → m ≤ length o → PrintableAt (NodesAt s st hi first n) (λ ns. in_math display (print_all manner.dialect s ns)) o 0
       able_write o fits = record { what = b.nodes; there = there; room = room o fits }
 
-      pub too_large : {o : List ℕ} → well_formed s ≡ true → has_nul s ≡ false → length o < m → Gives (translate manner s display store (length o)) (Err Refusal.OutputTooSmall) o o
-      too_large {o} e no_nul lt =
+      pub too_large : {o : List ℕ} → checked 4096 s ≡ accepted tt → length o < m → Gives (translate manner s display store (length o)) (Err Refusal.OutputTooSmall) o o
+      too_large {o} e lt =
           let l = long in
-          gives_nothing o (body_too_large manner s display store (length o) short e no_nul b.is (omega arith))
+          gives_nothing o (body_too_large manner s display store (length o) e b.is (omega arith))
 
-      pub written : {o o' : List ℕ} {r : ℕ} → well_formed s ≡ true → has_nul s ≡ false → m ≤ length o → PrintsAt (NodesAt s st hi first n) (λ ns. in_math display (print_all manner.dialect s ns)) o o' 0 r
+      pub written : {o o' : List ℕ} {r : ℕ} → checked 4096 s ≡ accepted tt → m ≤ length o → PrintsAt (NodesAt s st hi first n) (λ ns. in_math display (print_all manner.dialect s ns)) o o' 0 r
           → Gives (translate manner s display store (length o)) (Ok m) o o'
-      written {o} {o'} {r} e no_nul fits p =
+      written {o} {o'} {r} e fits p =
           let l = long in
           let q : PutsAt o o' 0 markup r = p.all b.nodes there (room o fits) in
-          gives_markup (body_fits manner s display store (length o) short e no_nul b.is (omega arith)) (omega arith) q
+          gives_markup (body_fits manner s display store (length o) e b.is (omega arith)) (omega arith) q
 
   -- ---- laid at a place, as a body of a document
   module _ (display : DisplayStyle) (sure : Bool) (o : List ℕ) (at : ℕ) (room_for : RoomFor (translate_body manner store display s) sure o at) where

@@ -1,14 +1,12 @@
 -- What an accepted body says, test by test, and so of its answer in the other dialect.
 -- Assumes nothing.
 use mathlib.Core.Path.{◌≡◌}
-use mathlib.Core.Bool.{false, not, ◌&&◌}
+use mathlib.Core.Bool.{false, ◌&&◌}
 use mathlib.Core.List.{List}
 use Prim.Native.Nat.{ℕ}
 use lib.Dec.{ltb}
 use lib.ListN.{length}
 use Rattle.text.specs.declared.Dialect.{Dialect}
-use Rattle.text.specs.Utf8.{well_formed}
-use Rattle.text.specs.Any.{has_nul}
 use Rattle.text.specs.Xml.{forbidden}
 use Rattle.text.proofs.Cases.{by_test}
 use Rattle.attribute.specs.declared.DisplayStyle.{DisplayStyle}
@@ -19,7 +17,7 @@ use Rattle.parser.specs.Parse.{parse}
 use Rattle.latex2mathml.specs.declared.Manner.{Manner}
 use Rattle.latex2mathml.specs.Outcome.{accepted, ◌>>=◌, refuse, body_limit, depth_limit}
 use Rattle.latex2mathml.specs.Manner.{old, strict, is_strict}
-use Rattle.latex2mathml.specs.Translate.{outcome, read_body, convert_content, in_math, latex_to_mathml, store_too_small, translate}
+use Rattle.latex2mathml.specs.Translate.{checked, outcome, read_body, convert_content, in_math, latex_to_mathml, store_too_small, translate}
 use Rattle.latex2mathml.specs.Related.{AsStrict, AsOld, Related}
 use Rattle.latex2mathml.proofs.OutcomeLaws.{steps, not_refused}
 
@@ -44,9 +42,7 @@ said manner s display t e =
 module _ (s : List ℕ) (display : DisplayStyle) (store room : ℕ) where
   -- .. and what is asked before and behind it
   pub record Told (manner : Manner) (t : List ℕ) : Type 0 where
-    pub short : ltb body_limit (length s) ≡ false
-    pub well : not (well_formed s) ≡ false
-    pub no_nul : has_nul s ≡ false
+    pub passes : checked body_limit s ≡ accepted tt
     pub stored : store_too_small store s ≡ accepted tt
     pub read : Said manner s display t
     pub fits : ltb room (length t) ≡ false
@@ -54,14 +50,12 @@ module _ (s : List ℕ) (display : DisplayStyle) (store room : ℕ) where
   pub told : (manner : Manner) (t : List ℕ) → translate manner s display store room ≡ accepted t → Told manner t
   unfolding translate
   told manner t e =
-      let a = not_refused (ltb body_limit (length s)) Refusal.TooLong _ t e in
-      let b = not_refused (not (well_formed s)) Refusal.IllFormed _ t a.1 in
-      let n = not_refused (has_nul s) Refusal.NulByte _ t b.1 in
-      let c = steps (store_too_small store s) _ t n.1 in
+      let a = steps (checked body_limit s) _ t e in
+      let c = steps (store_too_small store s) _ t a.then in
       let d = steps (latex_to_mathml manner s display) _ t c.then in
       let i = not_refused (ltb room (length d.value)) Refusal.OutputTooSmall _ t d.then in
       let same : d.value ≡ t = let z = i.1 in cc in
-      record { short = a.0; well = b.0; no_nul = n.0; stored = c.is; read = said manner s display t (rw same at d.is); fits = rw same at i.0 }
+      record { passes = a.is; stored = c.is; read = said manner s display t (rw same at d.is); fits = rw same at i.0 }
 
   abbrev markup : Dialect → Nodes → List ℕ
   markup d ns = in_math display (print_all d s ns)
@@ -72,11 +66,11 @@ module _ (s : List ℕ) (display : DisplayStyle) (store room : ℕ) where
       let a = told old t e in
       let r = a.read in
       by_test (forbidden s)
-      (λ f. AsStrict.forbids (rw (translate, a.short, a.well, a.no_nul, a.stored, latex_to_mathml, convert_content, read_body, r.parsed, f)))
+      (λ f. AsStrict.forbids (rw (translate, a.passes, a.stored, latex_to_mathml, convert_content, read_body, r.parsed, f)))
       (λ f.
       by_test (ltb room (length (markup Dialect.Strict r.nodes)))
-      (λ g. AsStrict.small (rw (translate, a.short, a.well, a.no_nul, a.stored, latex_to_mathml, convert_content, read_body, r.parsed, f, g)))
-      (λ g. AsStrict.taken (markup Dialect.Strict r.nodes) (rw (translate, a.short, a.well, a.no_nul, a.stored, latex_to_mathml, convert_content, read_body, r.parsed, f, g))))
+      (λ g. AsStrict.small (rw (translate, a.passes, a.stored, latex_to_mathml, convert_content, read_body, r.parsed, f, g)))
+      (λ g. AsStrict.taken (markup Dialect.Strict r.nodes) (rw (translate, a.passes, a.stored, latex_to_mathml, convert_content, read_body, r.parsed, f, g))))
 
   old_of_strict_lem : (t : List ℕ) → translate strict s display store room ≡ accepted t → AsOld (translate old s display store room)
   unfolding translate latex_to_mathml convert_content read_body refuse ◌>>=◌ is_strict
@@ -84,8 +78,8 @@ module _ (s : List ℕ) (display : DisplayStyle) (store room : ℕ) where
       let a = told strict t e in
       let r = a.read in
       by_test (ltb room (length (markup Dialect.Old r.nodes)))
-      (λ g. AsOld.small (rw (translate, a.short, a.well, a.no_nul, a.stored, latex_to_mathml, convert_content, read_body, r.parsed, g)))
-      (λ g. AsOld.taken (markup Dialect.Old r.nodes) (rw (translate, a.short, a.well, a.no_nul, a.stored, latex_to_mathml, convert_content, read_body, r.parsed, g)))
+      (λ g. AsOld.small (rw (translate, a.passes, a.stored, latex_to_mathml, convert_content, read_body, r.parsed, g)))
+      (λ g. AsOld.taken (markup Dialect.Old r.nodes) (rw (translate, a.passes, a.stored, latex_to_mathml, convert_content, read_body, r.parsed, g)))
 
 pub related : Related
 related = record { strict_of_old = strict_of_old_lem; old_of_strict = old_of_strict_lem }

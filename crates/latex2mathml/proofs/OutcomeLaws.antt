@@ -50,7 +50,13 @@ unfolding ◌>>=◌
 steps (accepted a) second b e = record { value = a; is = refl; then = e }
 steps (refused r) second b e = never cc
 
--- a test that would refuse failed
+-- a test that does not refuse failed, at the end
+pub refuses_none : (test : Bool) (r : Refusal) → refuse test r ≡ accepted tt → test ≡ false
+unfolding refuse
+refuses_none true r e = never cc
+refuses_none false r e = refl
+
+-- .. and before other steps
 pub not_refused : {B : Type 0} (test : Bool) (r : Refusal) (second : Unit {0} → Outcome B) (b : B) → (refuse test r >>= second) ≡ accepted b
     → (test ≡ false) × (second tt ≡ accepted b)
 unfolding refuse ◌>>=◌

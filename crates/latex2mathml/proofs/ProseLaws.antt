@@ -25,9 +25,9 @@ use Rattle.dollars.specs.Dollars.{mark, unusual, is_prose}
 use Rattle.dollars.specs.Places.{next_place}
 use Rattle.latex2mathml.specs.Laid.{in_room}
 use Rattle.latex2mathml.specs.Written.{over, Gives, Replaces}
-use Rattle.latex2mathml.proofs.TranslateLaws.{gives_nothing, gives_markup}
+use Rattle.latex2mathml.proofs.TranslateLaws.{check_long, check_all, gives_nothing, gives_markup}
 use Rattle.dollars.proofs.DollarLaws.{plain_none}
-use Rattle.latex2mathml.proofs.ReplaceLaws.{Checked, plain_checked, plain_large, plain_even, plain_passed, first_is, first_long, second_is, replacement_is, replace_refused}
+use Rattle.latex2mathml.proofs.ReplaceLaws.{Checked, plain_checked, plain_large, plain_even, plain_passed, first_is, first_unchecked, second_is, replacement_is, replace_refused}
 
 -- usual bytes are ASCII, and none is NUL
 usual_ascii : (l : List ℕ) → any unusual l ≡ false → (is_ascii l ≡ true) × (has_nul l ≡ false)
@@ -55,7 +55,7 @@ module _ (manner : Manner) (d : List ℕ) (store work : ℕ) (prose : is_prose d
     checked : Checked d
     checked =
         let h = usual_ascii d (not-true (any unusual d) sides.0) in
-        plain_checked d short (sym (ascii_well d h.0)) h.1 (unmarked Double)
+        plain_checked d (check_all 32768 d short (sym (ascii_well d h.0)) h.1) (unmarked Double)
 
     first_large : work < length d → first_pass manner d store work ≡ refused Refusal.WorkTooSmall
     first_large l = plain_large manner d store work checked (unmarked Double) l
@@ -70,7 +70,7 @@ module _ (manner : Manner) (d : List ℕ) (store work : ℕ) (prose : is_prose d
 -- The replacement in prose.
 module _ (manner : Manner) (d : List ℕ) (store : ℕ) (w o : List ℕ) (prose : is_prose d ≡ true) where
   pub prose_long : 32768 < length d → Replaces manner d store (Err Refusal.TooLong) w w o o
-  prose_long l = replace_refused manner d store w o Refusal.TooLong (first_long manner d store (length w) l)
+  prose_long l = replace_refused manner d store w o Refusal.TooLong (first_unchecked manner d store (length w) (check_long 32768 d l))
 
   module _ (short : length d ≤ 32768) where
     pub prose_large : length w < length d → Replaces manner d store (Err Refusal.WorkTooSmall) w w o o

@@ -8,10 +8,8 @@ use native.Mathlib.Omega.{arith}
 use lib.Dec.{ltb}
 use lib.ListN.{length, take, drop}
 use lib.Seq.{take_at, length-take-le}
-use borrow.Author.Tests.{ltb-false, lt-ltb, le-ltb, not-false}
+use borrow.Author.Tests.{ltb-false, lt-ltb, le-ltb}
 use Rattle.std.specs.Prelude.{Result, Ok, Err, Option, Some, None, is_some}
-use Rattle.text.specs.Utf8.{well_formed}
-use Rattle.text.specs.Any.{has_nul}
 use Rattle.text.specs.Put.{PutsAt}
 use Rattle.text.proofs.Cases.{never}
 use Rattle.text.proofs.PutLaws.{puts_all}
@@ -22,11 +20,12 @@ use Rattle.latex2mathml.specs.declared.Manner.{Manner}
 use Rattle.latex2mathml.specs.Outcome.{Outcome, accepted, refused, ◌>>=◌, refuse, bytes_of, document_limit}
 use Rattle.dollars.specs.Dollars.{dollar, two_dollars, three_dollars, mark}
 use Rattle.dollars.specs.Places.{places, odd, next_place, Finds}
+use Rattle.latex2mathml.specs.Translate.{checked}
 use Rattle.latex2mathml.specs.Replace.{substitute, first_pass, second_pass, replacement, replace_outcome, replace}
 use Rattle.latex2mathml.specs.Written.{over, Gives, Replaces}
 use Rattle.latex2mathml.specs.Laid.{Laid, LaidThere, Lays, Fits, WrittenThere, Begins, in_room, passed, growth, Passable, AtMost}
 use Rattle.latex2mathml.proofs.OutcomeLaws.{steps, not_refused}
-use Rattle.latex2mathml.proofs.TranslateLaws.{gives_nothing, gives_markup}
+use Rattle.latex2mathml.proofs.TranslateLaws.{check_gives, gives_nothing, gives_markup}
 use Rattle.dollars.proofs.PlaceLaws.{places_none}
 use Rattle.dollars.proofs.DollarLaws.{three_none}
 
@@ -52,34 +51,23 @@ begins_laid {want} {want'} {b} {b'} {n} q is same =
 -- ---- pass one
 
 module _ (manner : Manner) (d : List ℕ) (store work : ℕ) where
-  pub first_long : 32768 < length d → first_pass manner d store work ≡ refused Refusal.TooLong
-  unfolding first_pass refuse ◌>>=◌ document_limit
-  first_long h = rw (first_pass, lt-ltb 32768 (length d) h)
+  pub first_unchecked : {r : Refusal} → checked 32768 d ≡ refused r → first_pass manner d store work ≡ refused r
+  unfolding first_pass ◌>>=◌ document_limit
+  first_unchecked e = rw (first_pass, e)
 
-  module _ (short : length d ≤ 32768) where
-    pub first_ill_formed : well_formed d ≡ false → first_pass manner d store work ≡ refused Refusal.IllFormed
+  module _ (passes : checked 32768 d ≡ accepted tt) where
+    pub first_odd : odd (places two_dollars 0 d) ≡ true → first_pass manner d store work ≡ refused Refusal.InvalidNumberOfDollarSigns
     unfolding first_pass refuse ◌>>=◌ document_limit
-    first_ill_formed e = rw (first_pass, le-ltb 32768 (length d) short, e)
+    first_odd e = rw (first_pass, passes, e)
 
-    pub first_nul : well_formed d ≡ true → has_nul d ≡ true → first_pass manner d store work ≡ refused Refusal.NulByte
+    pub first_three : odd (places two_dollars 0 d) ≡ false → ltb 0 (length (places three_dollars 0 d)) ≡ true
+        → first_pass manner d store work ≡ refused Refusal.ThreeDollarSigns
     unfolding first_pass refuse ◌>>=◌ document_limit
-    first_nul well e = rw (first_pass, le-ltb 32768 (length d) short, well, e)
-
-    module _ (well : well_formed d ≡ true) (no_nul : has_nul d ≡ false) where
-      pub first_odd : odd (places two_dollars 0 d) ≡ true → first_pass manner d store work ≡ refused Refusal.InvalidNumberOfDollarSigns
-      unfolding first_pass refuse ◌>>=◌ document_limit
-      first_odd e = rw (first_pass, le-ltb 32768 (length d) short, well, no_nul, e)
-
-      pub first_three : odd (places two_dollars 0 d) ≡ false → ltb 0 (length (places three_dollars 0 d)) ≡ true
-          → first_pass manner d store work ≡ refused Refusal.ThreeDollarSigns
-      unfolding first_pass refuse ◌>>=◌ document_limit
-      first_three even e = rw (first_pass, le-ltb 32768 (length d) short, well, no_nul, even, e)
+    first_three even e = rw (first_pass, passes, even, e)
 
 -- a document whose bodies are looked at
 pub record Checked (d : List ℕ) : Type 0 where
-  pub short : length d ≤ 32768
-  pub well : well_formed d ≡ true
-  pub no_nul : has_nul d ≡ false
+  pub passes : checked 32768 d ≡ accepted tt
   pub even : odd (places two_dollars 0 d) ≡ false
   pub apart : ltb 0 (length (places three_dollars 0 d)) ≡ false
 
@@ -108,11 +96,9 @@ module _ (manner : Manner) (store : ℕ) (delimiter : Delimiter) (s : List ℕ) 
   plain_laid o o' at r place laid = record { text = s; is = plain_passed; place = place; laid = laid }
 
 -- no windows, and so no three dollars in a row
-pub plain_checked : (d : List ℕ) → length d ≤ 32768 → well_formed d ≡ true → has_nul d ≡ false → length d ≡ next_place two_dollars 0 d → Checked d
-plain_checked d short well no_nul none = record {
-  short = short;
-  well = well;
-  no_nul = no_nul;
+pub plain_checked : (d : List ℕ) → checked 32768 d ≡ accepted tt → length d ≡ next_place two_dollars 0 d → Checked d
+plain_checked d passes none = record {
+  passes = passes;
   even = plain_even Double d none;
   apart = rw (three_none d 0 (length d) (omega arith) none (omega arith) (omega arith));
 }
@@ -120,7 +106,7 @@ plain_checked d short well no_nul none = record {
 module _ (manner : Manner) (d : List ℕ) (store work : ℕ) where
   pub first_is : Checked d → first_pass manner d store work ≡ (passed manner store Double d >>= (λ text. refuse (ltb work (length text)) Refusal.WorkTooSmall >>= (λ _. accepted text)))
   unfolding first_pass refuse ◌>>=◌ document_limit
-  first_is h = rw (first_pass, le-ltb 32768 (length d) h.short, h.well, h.no_nul, h.even, h.apart)
+  first_is h = rw (first_pass, h.passes, h.even, h.apart)
 
   -- a text too long for the work buffer
   too_long : (h : Checked d) (text : List ℕ) → passed manner store Double d ≡ accepted text → work < length text → first_pass manner d store work ≡ refused Refusal.WorkTooSmall
@@ -159,19 +145,15 @@ module _ (manner : Manner) (d : List ℕ) (store work : ℕ) where
     pub first_accepted : First text
     unfolding first_pass document_limit
     first_accepted =
-        let short = not_refused (ltb 32768 (length d)) Refusal.TooLong _ text is in
-        let well = not_refused (not (well_formed d)) Refusal.IllFormed _ text short.1 in
-        let no_nul = not_refused (has_nul d) Refusal.NulByte _ text well.1 in
-        let even = not_refused (odd (places two_dollars 0 d)) Refusal.InvalidNumberOfDollarSigns _ text no_nul.1 in
+        let passes = steps (checked 32768 d) _ text is in
+        let even = not_refused (odd (places two_dollars 0 d)) Refusal.InvalidNumberOfDollarSigns _ text passes.then in
         let apart = not_refused (ltb 0 (length (places three_dollars 0 d))) Refusal.ThreeDollarSigns _ text even.1 in
         let read = steps (passed manner store Double d) _ text apart.1 in
         let fits = not_refused (ltb work (length read.value)) Refusal.WorkTooSmall _ text read.then in
         let same : read.value ≡ text = let e = fits.1 in cc in
         record {
           checked = record {
-            short = ltb-false 32768 (length d) short.0;
-            well = not-false (well_formed d) well.0;
-            no_nul = no_nul.0;
+            passes = passes.is;
             even = even.0;
             apart = apart.0;
           };
@@ -182,7 +164,7 @@ module _ (manner : Manner) (d : List ℕ) (store work : ℕ) where
     pub first_passable : (w : List ℕ) → work ≡ length w → Passable manner store Double d true w 0
     first_passable w lent =
         let f = first_accepted in
-        let short = f.checked.short in
+        let short = (check_gives 32768 d f.checked.passes).0 in
         let room = f.inside in
         record {
           small = omega arith;
@@ -276,7 +258,7 @@ module _ (manner : Manner) (d : List ℕ) (store : ℕ) (w w' : List ℕ) (n : �
         inside = omega arith;
         front = rw (puts_all p) (take_at text (drop (length text) w) n (sym long));
         output = puts_all p;
-        short = f.checked.short;
+        short = (check_gives 32768 d f.checked.passes).0;
         most = most;
       }
 

@@ -1,14 +1,14 @@
 -- What the translation of a body gives, test by test.
 -- Assumes nothing.
 use mathlib.Core.Path.{◌≡◌, refl, ◌∙◌}
-use mathlib.Core.Bool.{Bool, true, false, ◌&&◌}
+use mathlib.Core.Bool.{Bool, true, false, not, ◌&&◌}
 use mathlib.Core.List.{List}
 use Prim.Native.Nat.{ℕ, ◌+◌, ◌*◌, ◌/◌, ◌≤◌, ◌<◌}
 use native.Mathlib.Omega.{arith}
 use native.Mathlib.Nat.{mul-le-mul}
 use lib.Dec.{ltb}
 use lib.ListN.{length, length-append}
-use borrow.Author.Tests.{ltb-false, lt-ltb, le-ltb}
+use borrow.Author.Tests.{ltb-false, lt-ltb, le-ltb, not-false}
 use Rattle.std.specs.Prelude.{Ok, Err}
 use Rattle.text.specs.declared.Dialect.{Dialect}
 use Rattle.text.specs.Utf8.{well_formed}
@@ -32,11 +32,11 @@ use Rattle.parse.specs.Body.{parse_body, StoresBody}
 use Rattle.latex2mathml.specs.declared.Manner.{Manner}
 use Rattle.latex2mathml.specs.Manner.{is_strict}
 use Rattle.latex2mathml.specs.Outcome.{Outcome, accepted, refused, ◌>>=◌, refuse, body_limit, depth_limit, record_size, number_of, bytes_of}
-use Rattle.latex2mathml.specs.Translate.{outcome, read_body, convert_content, in_math, latex_to_mathml, store_too_small, translate}
+use Rattle.latex2mathml.specs.Translate.{checked, outcome, read_body, convert_content, in_math, latex_to_mathml, store_too_small, translate}
 use Rattle.latex2mathml.specs.Replace.{translate_body}
 use Rattle.latex2mathml.specs.Written.{read_nodes, answer_number, answer_length, over, Gives}
 use Rattle.latex2mathml.specs.Laid.{growth}
-use Rattle.latex2mathml.proofs.OutcomeLaws.{bind_bind}
+use Rattle.latex2mathml.proofs.OutcomeLaws.{bind_bind, not_refused, refuses_none}
 
 -- ---- a body that is read
 
@@ -118,24 +118,45 @@ module _ (manner : Manner) (s : List ℕ) (display : DisplayStyle) where
   unfolding latex_to_mathml convert_content ◌>>=◌
   math_is = simp bind_bind
 
+-- ---- the tests of a text
+
+module _ (limit : ℕ) (s : List ℕ) where
+  pub check_long : limit < length s → checked limit s ≡ refused Refusal.TooLong
+  unfolding checked refuse ◌>>=◌
+  check_long h = rw (checked, lt-ltb limit (length s) h)
+
+  pub check_ill_formed : length s ≤ limit → well_formed s ≡ false → checked limit s ≡ refused Refusal.IllFormed
+  unfolding checked refuse ◌>>=◌
+  check_ill_formed h e = rw (checked, le-ltb limit (length s) h, e)
+
+  pub check_nul : length s ≤ limit → well_formed s ≡ true → has_nul s ≡ true → checked limit s ≡ refused Refusal.NulByte
+  unfolding checked refuse ◌>>=◌
+  check_nul h e n = rw (checked, le-ltb limit (length s) h, e, n)
+
+  pub check_all : length s ≤ limit → well_formed s ≡ true → has_nul s ≡ false → checked limit s ≡ accepted tt
+  unfolding checked refuse ◌>>=◌
+  check_all h e n = rw (checked, le-ltb limit (length s) h, e, n)
+
+  -- what a text is that passes them
+  pub check_gives : checked limit s ≡ accepted tt → (length s ≤ limit) × (well_formed s ≡ true) × (has_nul s ≡ false)
+  unfolding checked
+  check_gives e =
+      let a = not_refused (ltb limit (length s)) Refusal.TooLong _ tt e in
+      let b = not_refused (not (well_formed s)) Refusal.IllFormed _ tt a.1 in
+      (ltb-false limit (length s) a.0, not-false (well_formed s) b.0, refuses_none (has_nul s) Refusal.NulByte b.1)
+
+-- ---- a body by itself
+
 module _ (manner : Manner) (s : List ℕ) (display : DisplayStyle) (store room : ℕ) where
-  pub too_long : 4096 < length s → translate manner s display store room ≡ refused Refusal.TooLong
-  unfolding translate refuse ◌>>=◌ body_limit
-  too_long h = rw (translate, lt-ltb 4096 (length s) h)
+  pub check_refused : {r : Refusal} → checked 4096 s ≡ refused r → translate manner s display store room ≡ refused r
+  unfolding translate ◌>>=◌ body_limit
+  check_refused e = rw (translate, e)
 
-  pub ill_formed : length s ≤ 4096 → well_formed s ≡ false → translate manner s display store room ≡ refused Refusal.IllFormed
-  unfolding translate refuse ◌>>=◌ body_limit
-  ill_formed h e = rw (translate, le-ltb 4096 (length s) h, e)
-
-  pub nul_byte : length s ≤ 4096 → well_formed s ≡ true → has_nul s ≡ true → translate manner s display store room ≡ refused Refusal.NulByte
-  unfolding translate refuse ◌>>=◌ body_limit
-  nul_byte h e n = rw (translate, le-ltb 4096 (length s) h, e, n)
-
-  module _ (h : length s ≤ 4096) (e : well_formed s ≡ true) (n : has_nul s ≡ false) where
+  module _ (e : checked 4096 s ≡ accepted tt) where
     body_is : translate manner s display store room
         ≡ (outcome (read_nodes manner s store) >>= (λ ns. refuse (ltb room (length (markup manner s display ns))) Refusal.OutputTooSmall >>= (λ _. accepted (markup manner s display ns))))
     unfolding translate refuse ◌>>=◌ body_limit
-    body_is = simp (translate, le-ltb 4096 (length s) h, e, n, math_is manner s display, nodes_is manner s store, bind_bind)
+    body_is = simp (translate, e, le-ltb 4096 (length s) (check_gives 4096 s e).0, math_is manner s display, nodes_is manner s store, bind_bind)
 
     pub body_no : {r : Refusal} → read_nodes manner s store ≡ Parsed.refused r → translate manner s display store room ≡ refused r
     unfolding outcome ◌>>=◌

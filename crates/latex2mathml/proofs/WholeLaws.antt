@@ -6,7 +6,6 @@ use mathlib.Core.List.{List, [], ◌∷◌}
 use Prim.Native.Nat.{ℕ, suc, ◌-◌}
 use native.Mathlib.Omega.{arith}
 use lib.ListN.{take, drop}
-use borrow.Author.Tests.{not-false}
 use Rattle.text.specs.Utf8.{well_formed}
 use Rattle.text.specs.Xml.{allows, forbidden}
 use Rattle.text.specs.declared.Dialect.{Dialect}
@@ -24,6 +23,7 @@ use Rattle.parser.proofs.FitLaws.{Reading}
 use Rattle.latex2mathml.specs.Manner.{strict, is_strict}
 use Rattle.latex2mathml.specs.Translate.{in_math}
 use Rattle.latex2mathml.specs.Documents.{StrictAnswers}
+use Rattle.latex2mathml.proofs.TranslateLaws.{check_gives}
 use Rattle.latex2mathml.proofs.MannerLaws.{told}
 use Rattle.latex2mathml.proofs.PlainLaws.{nodes_fit}
 
@@ -57,5 +57,5 @@ strict_nests s display store room t e =
     let a = told s display store room strict t e in
     let r = a.read in
     let clean : forbidden s ≡ false = r.allowed in
-    let fit = nodes_fit (allowed s) s (body_read s (not-false (well_formed s) a.well) clean) r.nodes r.parsed in
+    let fit = nodes_fit (allowed s) s (body_read s (check_gives _ s a.passes).1 clean) r.nodes r.parsed in
     rw (← r.is) (math_document display (print_all Dialect.Strict s r.nodes) (all_nested s clean r.nodes fit))

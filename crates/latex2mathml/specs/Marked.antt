@@ -15,14 +15,14 @@ use Rattle.markup.specs.Examples.{markup_opens}
 use Rattle.parser.specs.Examples.{parse_opens}
 use Rattle.latex2mathml.specs.Outcome.{Outcome, body_limit, document_limit, depth_limit, record_size, ◌>>=◌, refuse, number_of, bytes_of}
 use Rattle.latex2mathml.specs.Manner.{old, is_strict}
-use Rattle.latex2mathml.specs.Translate.{outcome, read_body, convert_content, in_math, latex_to_mathml, store_too_small, translate}
+use Rattle.latex2mathml.specs.Translate.{checked, outcome, read_body, convert_content, in_math, latex_to_mathml, store_too_small, translate}
 use Rattle.dollars.specs.Dollars.{dollar, two_dollars, three_dollars}
 use Rattle.dollars.specs.Places.{places, odd}
 use Rattle.latex2mathml.specs.Replace.{translate_body, substitute, first_pass, second_pass, replacement, Replaced, replace_outcome, replace}
 
 -- whoever unfolds this unfolds all definitions of this crate and of those below it, as an example has to
 unfoldable pub latex2mathml_opens : Unit {0}
-unfolding text_opens attribute_opens number token_opens lexer_opens ast_opens markup_opens parse_opens body_limit document_limit depth_limit record_size ◌>>=◌ refuse number_of bytes_of allows forbidden is_strict outcome read_body convert_content in_math latex_to_mathml store_too_small translate dollar two_dollars three_dollars places odd translate_body substitute first_pass second_pass replacement replace_outcome replace
+unfolding text_opens attribute_opens number token_opens lexer_opens ast_opens markup_opens parse_opens body_limit document_limit depth_limit record_size ◌>>=◌ refuse number_of bytes_of allows forbidden is_strict outcome read_body convert_content in_math latex_to_mathml store_too_small checked translate dollar two_dollars three_dollars places odd translate_body substitute first_pass second_pass replacement replace_outcome replace
 latex2mathml_opens = tt
 
 -- a line: a body with its markup, the wrapper left off, or with the number of its refusal; the length of the empty body's

@@ -1,8 +1,6 @@
 -- Replacement in a manner: the Rust's `replace`, at the lent sizes.
 -- Assumes nothing.
-use Rattle.std.specs.Prelude.{not, List, [], ◌∷◌, ◌++◌, ℕ, ◌+◌, ltb, length, drop}
-use Rattle.text.specs.Utf8.{well_formed}
-use Rattle.text.specs.Any.{has_nul}
+use Rattle.std.specs.Prelude.{List, [], ◌∷◌, ◌++◌, ℕ, ◌+◌, ltb, length, drop}
 use Rattle.text.specs.Text.{part}
 use Rattle.attribute.specs.declared.DisplayStyle.{DisplayStyle}
 use Rattle.dollars.specs.Dollars.{two_dollars, three_dollars, dollar}
@@ -10,7 +8,7 @@ use Rattle.dollars.specs.Places.{places, odd}
 use Rattle.error.specs.declared.Refusal.{Refusal}
 use Rattle.latex2mathml.specs.Outcome.{Outcome, accepted, ◌>>=◌, refuse, bytes_of, body_limit, document_limit}
 use Rattle.latex2mathml.specs.declared.Manner.{Manner}
-use Rattle.latex2mathml.specs.Translate.{latex_to_mathml, store_too_small}
+use Rattle.latex2mathml.specs.Translate.{checked, latex_to_mathml, store_too_small}
 
 -- a body of a document, which is well-formed where the document is, and has no NUL where the document has none
 unfoldable pub translate_body : Manner → ℕ → DisplayStyle → List ℕ → Outcome (List ℕ)
@@ -32,9 +30,7 @@ substitute m store display width s from (a ∷ (b ∷ marks)) = do
 -- pass one: the overlapping windows of two dollars, bodies as block, up to the text that goes to the work buffer
 unfoldable pub first_pass : Manner → List ℕ → ℕ → ℕ → Outcome (List ℕ)
 first_pass m document store work = do
-  _ ← refuse (ltb document_limit (length document)) Refusal.TooLong
-  _ ← refuse (not (well_formed document)) Refusal.IllFormed
-  _ ← refuse (has_nul document) Refusal.NulByte
+  _ ← checked document_limit document
   let windows = places two_dollars 0 document
   _ ← refuse (odd windows) Refusal.InvalidNumberOfDollarSigns
   _ ← refuse (ltb 0 (length (places three_dollars 0 document))) Refusal.ThreeDollarSigns

@@ -19,6 +19,13 @@ unfoldable pub outcome : Parsed Nodes → Outcome Nodes
 outcome (Parsed.made ns p) = accepted ns
 outcome (Parsed.refused r) = refused r
 
+-- a text has at most `limit` bytes, is well-formed and has no NUL
+unfoldable pub checked : ℕ → List ℕ → Outcome (Unit {0})
+checked limit s = do
+  _ ← refuse (ltb limit (length s)) Refusal.TooLong
+  _ ← refuse (not (well_formed s)) Refusal.IllFormed
+  refuse (has_nul s) Refusal.NulByte
+
 -- the nodes of a body: the parse is the same in both dialects, and the strict one refuses then what XML 1.0 forbids
 unfoldable pub read_body : Manner → List ℕ → Outcome Nodes
 read_body m s = do
@@ -48,9 +55,7 @@ store_too_small store s = refuse (ltb (store / record_size) (2 * length s)) Refu
 -- the body translation of s, with `store` and `room` bytes lent for the records and the output
 unfoldable pub translate : Manner → List ℕ → DisplayStyle → ℕ → ℕ → Outcome (List ℕ)
 translate m s display store room = do
-  _ ← refuse (ltb body_limit (length s)) Refusal.TooLong
-  _ ← refuse (not (well_formed s)) Refusal.IllFormed
-  _ ← refuse (has_nul s) Refusal.NulByte
+  _ ← checked body_limit s
   _ ← store_too_small store s
   mathml ← latex_to_mathml m s display
   _ ← refuse (ltb room (length mathml)) Refusal.OutputTooSmall

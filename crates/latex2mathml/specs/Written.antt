@@ -1,6 +1,6 @@
 -- What the operations promise: what their answers say, and what each lent buffer holds afterwards.
 -- Assumes nothing.
-use Rattle.std.specs.Prelude.{◌≡◌, true, false, ◌&&◌, List, ◌++◌, ℕ, length, drop, Result, Ok, Err}
+use Rattle.std.specs.Prelude.{◌≡◌, true, false, ◌&&◌, List, ◌++◌, ℕ, length, drop, ⊤, Result, Ok, Err}
 use Rattle.text.specs.Text.{bytes}
 use Rattle.text.specs.Put.{RoomAt, PutsAt}
 use Rattle.text.specs.Xml.{forbidden}
@@ -15,10 +15,15 @@ use Rattle.markup.specs.Print.{print_all}
 use Rattle.latex2mathml.specs.declared.Manner.{Manner}
 use Rattle.parser.specs.Parse.{Parsed}
 use Rattle.parse.specs.Body.{parse_body}
-use Rattle.latex2mathml.specs.Outcome.{Outcome, depth_limit, number_of, bytes_of}
+use Rattle.latex2mathml.specs.Outcome.{Outcome, accepted, refused, depth_limit, number_of, bytes_of}
 use Rattle.latex2mathml.specs.Manner.{is_strict}
-use Rattle.latex2mathml.specs.Translate.{in_math, translate}
+use Rattle.latex2mathml.specs.Translate.{checked, in_math, translate}
 use Rattle.latex2mathml.specs.Replace.{replace}
+
+-- a text passes the tests, or the answer is the refusal of the first that it fails
+abbrev pub Checks : ℕ → List ℕ → Result ⊤ Refusal → Type 0
+Checks limit s (Ok _) = checked limit s ≡ accepted tt
+Checks limit s (Err r) = checked limit s ≡ refused r
 
 -- the nodes of the body s, read in a manner with a store of `store` bytes
 unfoldable pub read_nodes : Manner → List ℕ → ℕ → Parsed Nodes

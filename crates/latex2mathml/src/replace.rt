@@ -8,14 +8,12 @@ ghost use Rattle.latex2mathml.specs.Written.{Free, Gives, Replaces};
 ghost use Rattle.latex2mathml.specs.Laid.{Laid, Lays, RoomFor, Fits, WrittenThere, Begins, display_of, in_room, passed, growth, Passable, AtMost};
 
 use crate::Manner;
-use crate::translate::{math_len, put_math, refuses};
+use crate::translate::{check, math_len, put_math, read_nodes};
 use attribute::DisplayStyle;
 use dollars::{Delimiter, first_mark, is_prose, next_mark, odd_marks, three_dollars};
 use error::Refusal;
-use parse::body::parse;
 use print::Source;
 use text::put::put;
-use text::{has_nul, well_formed};
 
 // Lays a piece at a place, or counts it where it does not fit; the answer is the place behind it. The place may lie behind the buffer's end,
 // where it is only counted, so the two are no `Output` (docs/DECISIONS.md, 90).
@@ -45,13 +43,9 @@ fn lay_body(
     requires { RoomFor (translate_body manner (length store.old) display s.now) sure out.old at }
     ensures { Lays (translate_body manner (length store.old) display s.now) out.old out.new at result }
 {
-    let nodes = parse(s, store, 256)?;
-    let dialect = manner.dialect;
-    if refuses(dialect, s) {
-        return Err(Refusal::ForbiddenCharacter);
-    }
+    let nodes = read_nodes(manner, s, store)?;
     let source = Source {
-        dialect,
+        dialect: manner.dialect,
         body: s,
         store,
     };
@@ -129,15 +123,7 @@ fn first_pass(
 ) -> Result<usize, Refusal>
     ensures { Lays (first_pass manner document.now (length store.old) room) out.old out.new 0 result × AtMost (length document.now * growth) result }
 {
-    if 32768 < document.len() {
-        return Err(Refusal::TooLong);
-    }
-    if !well_formed(document) {
-        return Err(Refusal::IllFormed);
-    }
-    if has_nul(document) {
-        return Err(Refusal::NulByte);
-    }
+    check(document, 32768)?;
     if first_mark(document, Delimiter::Double).is_none() {
         if room < document.len() {
             return Err(Refusal::WorkTooSmall);
@@ -247,7 +233,7 @@ fn replace_within<const N: usize>(
     replace_in(manner, document, store, work, out, &mut draft)
 }
 
-// The replacement in prose, which is copied without a draft.
+// The replacement in prose, which is copied without a draft. Prose is well-formed and has no NUL, so only its length is tested.
 fn replace_prose(document: &[u8], work: &mut [u8], out: &mut [u8]) -> Result<usize, Refusal>
     requires { is_prose document.now ≡ true }
     ensures { (manner : Manner) (store : ℕ) → Replaces manner document.now store result work.old work.new out.old out.new }

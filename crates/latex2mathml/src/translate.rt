@@ -7,7 +7,8 @@ ghost use Rattle.print.specs.Shown.{NodesAt};
 ghost use Rattle.print.specs.Measure.{Measurable};
 ghost use Rattle.latex2mathml.specs.Manner.{strict, is_strict};
 ghost use Rattle.latex2mathml.specs.Translate.{in_math};
-ghost use Rattle.latex2mathml.specs.Written.{opening, PrintableAt, PrintsAt, MathLong, Free, Translates};
+ghost use Rattle.parse.specs.Body.{BodyAnswers};
+ghost use Rattle.latex2mathml.specs.Written.{Checks, read_nodes, opening, PrintableAt, PrintsAt, MathLong, Free, Translates};
 
 use crate::Manner;
 use attribute::DisplayStyle;
@@ -20,14 +21,41 @@ use text::put::Output;
 use text::xml::is_forbidden;
 use text::{Dialect, has_nul, well_formed};
 
+// Refuses a text that has more bytes than a limit, one that is not well-formed and one that has a NUL, in this order.
+pub(crate) fn check(s: &[u8], limit: usize) -> Result<(), Refusal>
+    ensures { Checks limit s.now result }
+{
+    if limit < s.len() {
+        return Err(Refusal::TooLong);
+    }
+    if !well_formed(s) {
+        return Err(Refusal::IllFormed);
+    }
+    if has_nul(s) {
+        return Err(Refusal::NulByte);
+    }
+    Ok(())
+}
+
 // Whether the dialect refuses a body for a character that XML 1.0 forbids.
-pub(crate) fn refuses(dialect: Dialect, s: &[u8]) -> bool
+fn refuses(dialect: Dialect, s: &[u8]) -> bool
     ensures { result ≡ (is_strict dialect && forbidden s.now) }
 {
     match dialect {
         Dialect::Old => false,
         Dialect::Strict => is_forbidden(s),
     }
+}
+
+// The nodes of a body, with their records in a lent store; a character that XML 1.0 forbids is looked for behind the parse.
+pub(crate) fn read_nodes(manner: Manner, s: &[u8], store: &mut [u8]) -> Result<ParsedNodes, Refusal>
+    ensures { BodyAnswers s.now store.new (read_nodes manner s.now (length store.old)) result }
+{
+    let nodes = parse(s, store, 256)?;
+    if refuses(manner.dialect, s) {
+        return Err(Refusal::ForbiddenCharacter);
+    }
+    Ok(nodes)
 }
 
 // Puts the opening tag of the wrapper, whose length stands in `wrapper_len`: lengths are apart from printing (docs/DECISIONS.md, 91).
@@ -93,22 +121,10 @@ pub fn latex_to_mathml(
 ) -> Result<usize, Refusal>
     ensures { Translates manner s.now display (length store.old) result out.old out.new × Free store.old store.new }
 {
-    if 4096 < s.len() {
-        return Err(Refusal::TooLong);
-    }
-    if !well_formed(s) {
-        return Err(Refusal::IllFormed);
-    }
-    if has_nul(s) {
-        return Err(Refusal::NulByte);
-    }
-    let nodes = parse(s, store, 256)?;
-    let dialect = manner.dialect;
-    if refuses(dialect, s) {
-        return Err(Refusal::ForbiddenCharacter);
-    }
+    check(s, 4096)?;
+    let nodes = read_nodes(manner, s, store)?;
     let source = Source {
-        dialect,
+        dialect: manner.dialect,
         body: s,
         store,
     };

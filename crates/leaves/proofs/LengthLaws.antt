@@ -36,11 +36,6 @@ use Rattle.markup.specs.Print.{fixed_text, width_text, letter_text, character, o
 use Rattle.markup.specs.Fronts.{accent_text, style_front, front_one, back_one, front_two, back_two}
 use Rattle.markup.specs.Own.{under, own_text, own_errors}
 use Rattle.markup.proofs.PrintLaws.{italic_letter, other_letter, error_ampersand, error_new_line, undefined_pieces}
-use Rattle.markup.proofs.ShortLaws.{width_short}
-
-pub width_small : (w : ℕ) → length (bytes (width_of w)) ≤ 11
-unfolding width_text
-width_small w = width_short w
 
 -- a matrix that is centred has no attribute in either dialect
 pub center_long : (d : Dialect) → 0 ≡ length (align_text d ColumnAlign.Center)

@@ -63,7 +63,8 @@ pub fn put_back_one(dialect: Dialect, k: One, out: &mut Output)
     }
 }
 
-// What stands before the parts of a node with two parts.
+// What stands before the parts of a node with two parts. The tag of a fraction without a line is written out, though `LineThickness` knows its attribute:
+// what is answered is one text that is there already.
 #[tactic(auto, unfolding(text::specs::Examples::text_opens, attribute::specs::Names::line_thickness, markup::specs::Fronts::front_two))]
 pub fn front_two(k: Two) -> &'static [u8]
     ensures { result.now ≡ front_two k }

@@ -170,7 +170,7 @@ fn put_sized_paren(dialect: Dialect, z: u32, t: u32, out: &mut Output)
 }
 
 // Puts an ampersand, which begins a cell of a matrix. One function for it and for a new line would take the leaf and both of its texts, and
-// a law that they belong together.
+// a law that they belong together. Both take the dialect for their contracts, since the markup of a leaf is a dialect's.
 fn put_ampersand(dialect: Dialect, place: Place, out: &mut Output)
     requires { Room out.old (length (at_place dialect place (leaf Leaf.Ampersand) (parse_error dialect (bytes "Ampersand")))) }
     ensures { Puts out.old out.new (at_place dialect place (leaf Leaf.Ampersand) (parse_error dialect (bytes "Ampersand"))) }

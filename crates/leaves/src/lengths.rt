@@ -1,5 +1,5 @@
-// The lengths of what is printed, by the numbers of a record: one match gives constants and nothing is put. By a `Shape` it was measured
-// slower (docs/DECISIONS.md, 74). Of the places only that under a slash changes a length here, so `slashed` stands for `Place`: what a mark
+// The lengths of what is printed, by the numbers of a record: one match gives constants and nothing is put. By a `Shape` pages took 11 to 21 %
+// longer, measured on an older toolchain (docs/DECISIONS.md, 74). Of the places only that under a slash changes a length here, so `slashed` stands for `Place`: what a mark
 // of a matrix prints in a cell is counted by `print::measure`.
 ghost use Rattle.std.specs.Prelude.{◌≡◌, ◌≤◌, length};
 ghost use Rattle.token.specs.Debug.{Inside};
@@ -27,7 +27,7 @@ fn variant_len(v: Variant) -> usize
     15 + v.name().len()
 }
 
-// .. of a matrix's alignment, whose text is a function of `print`, which stands above this crate.
+// .. of a matrix's alignment, as constants, like those of the tags below: one match on the record's numbers gives them, and no text is looked up.
 fn align_len(dialect: Dialect, align: ColumnAlign) -> usize
     ensures { result ≡ length (align_text dialect align) }
 {
@@ -40,7 +40,7 @@ fn align_len(dialect: Dialect, align: ColumnAlign) -> usize
     }
 }
 
-// .. of whether a style is that of a block: no function gives its text by itself.
+// .. of whether a style is that of a block, as constants too: the tag that has it is one text.
 fn display_len(d: DisplayStyle) -> usize
     ensures { result ≡ length (display_text d) }
 {

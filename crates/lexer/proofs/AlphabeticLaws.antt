@@ -3,12 +3,12 @@
 use mathlib.Core.Path.{◌≡◌, refl, sym, ap, ◌∙◌}
 use mathlib.Core.Bool.{Bool, true, false, ◌&&◌, and-eq-true_iff, false≢true}
 use mathlib.Core.List.{List, [], ◌∷◌}
-use Prim.Native.Nat.{ℕ, suc, ◌+◌, ◌-◌, ◌≤◌, ◌<◌}
+use Prim.Native.Nat.{ℕ, suc, ◌+◌, ◌≤◌, ◌<◌}
 use native.Mathlib.Omega.{arith}
 use native.Mathlib.Nat.{add-zero}
 use lib.Dec.{leb}
-use lib.ListN.{length, take, drop, get_or, length-drop}
-use lib.Seq.{drop-cons, take_all}
+use lib.ListN.{length, drop, get_or}
+use lib.Seq.{drop-cons}
 use borrow.Author.Tests.{leb-true, ne_eqb}
 use Rattle.text.proofs.Cases.{by_test}
 use Rattle.text.proofs.Keys.{NoneOf}
@@ -71,9 +71,3 @@ module _ (b : ℕ) (h : is_alphabetic b ≡ true) where
 pub letter_at : (s : List ℕ) (at : ℕ) → at < length s → is_alphabetic (get_or s at 0) ≡ true
     → next_token at (drop at s) ≡ lexeme (Token.Letter (get_or s at 0) Variant.Italic) at (at + 1)
 letter_at s at inside h = rw (drop-cons s at 0 inside) (alphabetic_token (get_or s at 0) h at (drop (suc at) s))
-
-pub letter_in : (t : List ℕ) (i : ℕ) → i < length t → is_alphabetic (get_or t i 0) ≡ true
-    → lexeme (Token.Letter (get_or t i 0) Variant.Italic) 0 1 ≡ next_token 0 (take (length t - i) (drop i t))
-letter_in t i inside h =
-    rw (take_all (length t - i) (drop i t) (omega (arith, length-drop i t)), drop-cons t i 0 inside)
-    (sym (alphabetic_token (get_or t i 0) h 0 (drop (suc i) t)))

@@ -1,5 +1,6 @@
 // The letters at the head of a text, which the Rust's parse_text reads. One walk puts them and one gives their length: a walk that does either
-// would be asked at each letter which it is to do.
+// would be asked at each letter which it is to do. Both go from a letter's end to the next letter, as a letter has no fixed width and the lexer
+// answers with places.
 ghost use Rattle.std.specs.Prelude.{◌≡◌, ◌^◌, ◌≤◌, ◌<◌, length, drop};
 ghost use Rattle.text.specs.Put.{Room, Puts};
 ghost use Rattle.text.specs.Xml.{in_text};
@@ -27,10 +28,14 @@ pub fn letter_or_token(s: &[u8], at: usize) -> Lexeme
     requires { at ≤ length s.now }
     ensures { (result ≡ next_token at (drop at s.now)) × (result.end ≤ length s.now) }
 {
-    if at < s.len() && is_alphabetic(s[at]) {
-        return Lexeme::new(Token::Letter(u32::from(s[at]), Variant::Italic), at, at + 1);
+    match s.get(at) {
+        Some(&b) if is_alphabetic(b) => Lexeme::new(
+            Token::Letter(u32::from(b), Variant::Italic),
+            at,
+            at + 1,
+        ),
+        _ => token_from(s, at),
     }
-    token_from(s, at)
 }
 
 // The letter at a place, if the next token there is one.
@@ -53,7 +58,7 @@ pub fn put_letters(dialect: Dialect, t: &[u8], out: &mut Output)
     requires { Room out.old (length (in_text dialect (encode_all (letters t.now)))) }
     ensures { Puts out.old out.new (in_text dialect (encode_all (letters t.now))) }
 {
-    let mut i = 0;
+    let mut i: usize = 0;
     while let Some(letter) = letter_at(t, i) {
         put_character(dialect, letter.code, out);
         i = letter.end;

@@ -33,6 +33,7 @@ fn is_whitespace(b: u8) -> bool
     matches!(b, b' ' | b'\t' | b'\n' | b'\r')
 }
 
+// A function for the call of std here and in the next: the promise is the definition's name, and `skip` takes a function.
 fn is_digit(b: u8) -> bool
     ensures { result ≡ is_digit b }
 {
@@ -119,11 +120,11 @@ impl Cursor {
         requires { self.at ≤ length s.now }
         ensures { (result.at ≡ self.at + name_length (drop self.at s.now)) × (result.at ≤ length s.now) }
     {
-        if self.at < s.len() && is_alphabetic(s[self.at]) {
-            return self.skip_alphabetic(s);
-        }
-        Cursor {
-            at: self.at + code_point(s, self.at).width,
+        match s.get(self.at) {
+            Some(&b) if is_alphabetic(b) => self.skip_alphabetic(s),
+            _ => Cursor {
+                at: self.at + code_point(s, self.at).width,
+            },
         }
     }
 

@@ -14,7 +14,7 @@ ghost use Rattle.parser.specs.Parse.{build, grouped, of_pair, operator, with_bel
 ghost use Rattle.parser.specs.Marks.{script_of};
 ghost use Rattle.parser.specs.Built.{node_record, Free, BuildsNone, BuildsLeaf, BuildsOne, BuildsTwo, BuildsBehind, BuildsThree, BuildsRow, BuildsMatrix, with_limit, with_limits};
 
-use ast::codes::role_of;
+use ast::rows::Linked;
 use ast::store::{get_record, put_record};
 use ast::{Fields, Leaf, One, Record, Role, Stretched, Three, Two};
 use attribute::{Accent, ColumnAlign, DisplayStyle, LineThickness};
@@ -328,7 +328,7 @@ pub fn make_stretched(store: &mut [u8], p: Parser, i: usize) -> Result<ParsedNod
     requires { Free store.old p 1 × (i < p.made) }
     ensures { BuildsOne store.old store.new p i (λ n. stretched (stretch n) p) result }
 {
-    match role_of(get_record(store, i)) {
+    match Role::from(get_record(store, i)) {
         Role::Operator(c) => make_leaf(store, p, Leaf::StrechedOp(Stretched::Character(c))),
         Role::OtherOperator(t) => make_leaf(store, p, Leaf::StrechedOp(Stretched::Fixed(t))),
         _ => Err(Refusal::MiddleOperand),
@@ -359,22 +359,24 @@ pub fn make_fenced(
 }
 
 // The nodes of a group: a row, unless there is exactly one.
-pub fn make_row(
-    store: &mut [u8],
-    p: Parser,
-    first: usize,
-    count: usize,
-) -> Result<ParsedNode, Refusal>
-    requires { Free store.old p 1 × (first < 65536) × (count < 2 ^ 32) }
-    ensures { BuildsRow store.old store.new p first count (λ ns. grouped ns p) result }
+pub fn make_row(store: &mut [u8], p: Parser, nodes: Linked) -> Result<ParsedNode, Refusal>
+    requires { Free store.old p 1 × (nodes.first < 65536) × (nodes.count < 2 ^ 32) }
+    ensures { BuildsRow store.old store.new p nodes.first nodes.count (λ ns. grouped ns p) result }
 {
-    if count == 1 {
+    if nodes.count == 1 {
         return Ok(ParsedNode {
-            node: first,
+            node: nodes.first,
             after: p,
         });
     }
-    put_node(store, p.made, Fields::row(count as u32), first, 0, 0);
+    put_node(
+        store,
+        p.made,
+        Fields::row(nodes.count as u32),
+        nodes.first,
+        0,
+        0,
+    );
     done(p, 1)
 }
 
@@ -422,7 +424,7 @@ pub fn make_environment(
 {
     let env = env.ok_or(Refusal::UnknownEnvironment)?;
     let r = get_record(store, content);
-    match role_of(r) {
+    match Role::from(r) {
         Role::Row(n) => make_matrix(store, p, env, r.a, n),
         _ => make_matrix(store, p, env, content, 1),
     }

@@ -6,7 +6,7 @@ use mathlib.Core.List.{List, [], ◌∷◌, ◌++◌, append_assoc}
 use Prim.Native.Nat.{ℕ, ◌+◌, ◌*◌, ◌≤◌, ◌<◌}
 use native.Mathlib.Numerals.{add-one}
 use native.Mathlib.Omega.{arith}
-use lib.ListN.{length, take, drop, get_or, length-append}
+use lib.ListN.{length, take, drop, get_or, length-append, set}
 use lib.Seq.{take-suc-set, get_or-set_same, append_snoc}
 use Rattle.std.specs.Int.{from_bool}
 use Rattle.text.specs.Text.{part}
@@ -39,16 +39,16 @@ pub record Drafting (manner : Manner) (s : List ℕ) (store work from at k refus
 regrouped : (a b c l : List ℕ) → a ++ (b ++ c ++ l) ≡ a ++ b ++ c ++ l
 regrouped a b c l = simp append_assoc
 
-module _ {manner : Manner} {s : List ℕ} {store work from at k refused : ℕ} {d d' : List ℕ} {m m' : List Bool} (h : Drafting manner s store work from at k refused d m) (e n : ℕ)
-    (first : e ≡ next_place two_line_ends from (drop from s)) (room : k < length m) (p : Drafted manner (part from e s) store work d d' at m m' k n) where
+module _ {manner : Manner} {s : List ℕ} {store work from at k refused : ℕ} {d d' : List ℕ} {m : List Bool} {x : Bool} (h : Drafting manner s store work from at k refused d m) (e n : ℕ)
+    (first : e ≡ next_place two_line_ends from (drop from s)) (room : k < length m) (p : Drafted manner (part from e s) store work d d' at x n) where
   -- the mark of the paragraph that is drafted next stands behind those before it
-  mark_is : get_or m' k false ≡ is_left manner store work (part from e s)
+  mark_is : get_or (set m k x) k false ≡ is_left manner store work (part from e s)
   mark_is = rw p.mark (get_or-set_same m k (is_left manner store work (part from e s)) false room)
 
-  mark_counted : from_bool (get_or m' k false) ≡ left manner store work (part from e s)
+  mark_counted : from_bool (get_or (set m k x) k false) ≡ left manner store work (part from e s)
   mark_counted = rw mark_is (mark_counts manner (part from e s) store work)
 
-  marks_are : take (k + 1) m' ≡ take k m ++ is_left manner store work (part from e s) ∷ []
+  marks_are : take (k + 1) (set m k x) ≡ take k m ++ is_left manner store work (part from e s) ∷ []
   marks_are = rw (p.mark, add-one) (take-suc-set m k (is_left manner store work (part from e s)) room)
 
   -- the paragraph stands behind what is done
@@ -64,7 +64,7 @@ module _ {manner : Manner} {s : List ℕ} {store work from at k refused : ℕ} {
       let both = length-append h.done (shown manner store work (part from e s)) in
       omega arith
 
-  pub drafting_last : e ≡ length s → length d' ≡ length d → Totalled manner s store work d' m' (record { length = n; paragraphs = k + 1; left = refused + from_bool (get_or m' k false) })
+  pub drafting_last : e ≡ length s → length d' ≡ length d → Totalled manner s store work d' (set m k x) (record { length = n; paragraphs = k + 1; left = refused + from_bool (get_or (set m k x) k false) })
   unfolding shown_all paragraphs left_all marks
   drafting_last end same =
       let are = pieces_last s from e h.inside first end in
@@ -93,7 +93,7 @@ module _ {manner : Manner} {s : List ℕ} {store work from at k refused : ℕ} {
         omega arith
 
     pub drafting_more : (d'' : List ℕ) (at' : ℕ) → at' ≡ n + length (part e b s) → Laid d' d'' n (part e b s) → length d' ≡ length d → length d'' ≡ length d'
-        → Drafting manner s store work b at' (k + 1) (refused + from_bool (get_or m' k false)) d'' m'
+        → Drafting manner s store work b at' (k + 1) (refused + from_bool (get_or (set m k x) k false)) d'' (set m k x)
     unfolding shown_all paragraphs left_all marks
     drafting_more d'' at' place laid same same' =
         let rest = pieces (drop b s) in

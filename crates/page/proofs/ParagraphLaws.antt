@@ -5,7 +5,7 @@ use mathlib.Core.Bool.{Bool, true, false}
 use mathlib.Core.List.{List, ◌++◌}
 use Prim.Native.Nat.{ℕ, ◌+◌, ◌*◌, ◌≤◌}
 use native.Mathlib.Omega.{arith}
-use lib.ListN.{length, take, drop, set, length-append}
+use lib.ListN.{length, take, drop, length-append}
 use lib.Seq.{take_at, length-take-le}
 use Rattle.std.specs.Int.{from_bool}
 use Rattle.text.specs.Put.{put, RoomAt, PutsAt}
@@ -64,9 +64,9 @@ module _ (manner : Manner) (p : List ℕ) (store work : ℕ) where
       by_outcome (replacement manner p store work) (λ text e. omega (arith, left_replaced text e)) (λ r e. omega (arith, left_typed r e))
 
   -- what is drafted of it
-  module _ (d d' : List ℕ) (m : List Bool) (at k : ℕ) where
+  module _ (d d' : List ℕ) (at : ℕ) where
     pub drafted_replaced : (x : Bool) (z : ℕ) → x ≡ false → LaidThere (replacement manner p store work) d d' at z → z ≤ at + length p * (growth * growth)
-        → Drafted manner p store work d d' at m (set m k x) k z
+        → Drafted manner p store work d d' at x z
     drafted_replaced x z is h most =
         let e = shown_replaced h.text h.is in
         rw is
@@ -78,7 +78,7 @@ module _ (manner : Manner) (p : List ℕ) (store work : ℕ) where
         })
 
     pub drafted_typed : (x : Bool) (r : Refusal) (n : ℕ) (d₁ : List ℕ) → x ≡ true → replacement manner p store work ≡ refused r → take at d₁ ≡ take at d → length d₁ ≡ length d
-        → n ≡ at + length p → Laid d₁ d' at p → Drafted manner p store work d d' at m (set m k x) k n
+        → n ≡ at + length p → Laid d₁ d' at p → Drafted manner p store work d d' at x n
     drafted_typed x r n d₁ is e kept same place laid =
         let shows = shown_typed r e in
         rw is

@@ -13,7 +13,7 @@ use Rattle.attribute.specs.declared.DisplayStyle.{DisplayStyle}
 use Rattle.error.specs.declared.Refusal.{Refusal}
 use Rattle.latex2mathml.specs.declared.Manner.{Manner}
 use Rattle.latex2mathml.specs.Outcome.{accepted, ◌>>=◌, refuse, body_limit}
-use Rattle.latex2mathml.specs.Translate.{latex_to_mathml, store_too_small, translate}
+use Rattle.latex2mathml.specs.Translate.{checked, latex_to_mathml, store_too_small, translate}
 use Rattle.latex2mathml.specs.Replace.{translate_body, replacement, replace_outcome, replace}
 use Rattle.dollars.specs.declared.Delimiter.{Delimiter}
 use Rattle.dollars.specs.declared.Delimiter.TheVariants.{Single, Double}
@@ -21,6 +21,7 @@ use Rattle.dollars.specs.Dollars.{width}
 use Rattle.latex2mathml.specs.Laid.{passed}
 use Rattle.latex2mathml.proofs.PlainLaws.{markup_plain}
 use Rattle.latex2mathml.proofs.OutcomeLaws.{steps, not_refused}
+use Rattle.latex2mathml.proofs.TranslateLaws.{check_gives}
 use Rattle.latex2mathml.proofs.ReplaceLaws.{both_accepted, first_accepted, second_passed}
 use Rattle.page.specs.Words.{ReplacedBy, dollar_runs, tidy, parts, display_of, Shows, dollars}
 use Rattle.page.specs.Demand.{Each, joined, Made}
@@ -47,10 +48,10 @@ translated manner store display b m is =
 -- a body of a document is a body translated alone, with room for its markup
 pub alone : (manner : Manner) (store : ℕ) (display : DisplayStyle) (b m : List ℕ) (room : ℕ) → Readable b → length m ≤ room
     → translate_body manner store display b ≡ accepted m → translate manner b display store room ≡ accepted m
-unfolding translate refuse ◌>>=◌
+unfolding translate checked refuse ◌>>=◌
 alone manner store display b m room readable fits is =
     let t = translated manner store display b m is in
-    rw (translate, t.short, readable.0, readable.1, t.stored, t.markup, le-ltb room (length m) fits)
+    rw (translate, checked, t.short, readable.0, readable.1, t.stored, t.markup, le-ltb room (length m) fits)
 
 -- ---- the text of a pass
 
@@ -164,6 +165,7 @@ unfolding tidy parts
 tidied manner store work p m even replaced =
     let both = both_accepted manner p store work m (replaced_is manner p store work (length m) m (replaced (length m) (omega arith))) in
     let first = first_accepted manner p store work both.text both.first in
-    let s = spans_of (dollar_runs p) (cut_apart p) even (rw (joins p) (first.checked.well, first.checked.no_nul)) in
+    let readable = check_gives 32768 p first.checked.passes in
+    let s = spans_of (dollar_runs p) (cut_apart p) even (rw (joins p) (readable.1, readable.2)) in
     rw (← s.parts)
     (spans_made manner store s.spans both.text m s.fine (rw (s.typed, joins p) first.is) (second_passed manner store both.text m both.second))

@@ -1,6 +1,6 @@
 -- What is known of a page before it is written: how it comes out, and which of its paragraphs are left as typed.
 -- Assumes nothing.
-use Rattle.std.specs.Prelude.{◌≡◌, Bool, true, false, List, [], ◌∷◌, ◌++◌, ℕ, ◌+◌, ◌*◌, ◌≤◌, length, take, set}
+use Rattle.std.specs.Prelude.{◌≡◌, Bool, true, false, List, [], ◌∷◌, ◌++◌, ℕ, ◌+◌, ◌*◌, ◌≤◌, length, take}
 use Rattle.latex2mathml.specs.declared.Manner.{Manner}
 use Rattle.latex2mathml.specs.Outcome.{accepted, refused}
 use Rattle.latex2mathml.specs.Replace.{replacement}
@@ -23,12 +23,12 @@ abbrev pub Marked : Manner → List ℕ → ℕ → ℕ → List Bool → Type 0
 Marked manner document store work m = take (paragraphs (pieces document)) m ≡ marks manner store work (pieces document)
 
 -- the paragraph p is laid at the place `at` of the draft d as it comes out, which gives d', and r, which is not too large to be counted, is the
--- place behind it; its mark is put at k of m, which gives m'
-pub record Drafted (manner : Manner) (p : List ℕ) (store work : ℕ) (d d' : List ℕ) (at : ℕ) (m m' : List Bool) (k r : ℕ) : Type 0 where
+-- place behind it; its mark is m
+pub record Drafted (manner : Manner) (p : List ℕ) (store work : ℕ) (d d' : List ℕ) (at : ℕ) (m : Bool) (r : ℕ) : Type 0 where
   pub place : r ≡ at + length (shown manner store work p)
   pub most : r ≤ at + length p * (growth * growth)
   pub front : r ≤ length d → take r d' ≡ take at d ++ shown manner store work p
-  pub mark : m' ≡ set m k (is_left manner store work p)
+  pub mark : m ≡ is_left manner store work p
 
 -- r are the totals of a document, whose page is the front of the draft d if it fits there, and m has its marks
 pub record Totalled (manner : Manner) (document : List ℕ) (store work : ℕ) (d : List ℕ) (m : List Bool) (r : Totals) : Type 0 where

@@ -9,7 +9,7 @@ use breaks::{break_end, next_break};
 use latex2mathml::Manner;
 use latex2mathml::replace::{lay, lay_replacement};
 
-// Lays a paragraph at a place as it comes out, and marks at k whether it is left as typed; the answer is the place behind it.
+// Lays a paragraph at a place as it comes out, and marks whether it is left as typed; the answer is the place behind it.
 fn draft_paragraph(
     manner: Manner,
     p: &[u8],
@@ -17,22 +17,21 @@ fn draft_paragraph(
     work: &mut [u8],
     draft: &mut [u8],
     at: usize,
-    left: &mut [bool],
-    k: usize,
+    left: &mut bool,
 ) -> usize
-    requires { (k < length left.old) × (at + length p.now * (growth * growth) < 2 ^ 63) }
-    ensures { Drafted manner p.now (length store.old) (length work.old) draft.old draft.new at left.old left.new k result }
+    requires { (at + length p.now * (growth * growth) < 2 ^ 63) }
+    ensures { Drafted manner p.now (length store.old) (length work.old) draft.old draft.new at left.new result }
 {
     let answer = lay_replacement(manner, p, store, work, draft, at);
-    left[k] = answer.is_err();
+    *left = answer.is_err();
     match answer {
         Ok(end) => end,
         Err(_) => lay(p, draft, at),
     }
 }
 
-// Drafts each paragraph in turn, with the breaks between them, and marks those that are left as typed. The loop is no `for`: k counts the paragraphs,
-// whose number is not known before the last.
+// Drafts each paragraph in turn, with the breaks between them, and marks those that are left as typed. The loop is no `for` over k: to know the number of
+// the paragraphs before takes a walk more.
 pub fn draft_page(
     manner: Manner,
     document: &[u8],
@@ -50,7 +49,15 @@ pub fn draft_page(
     let mut refused: usize = 0;
     loop {
         let e = next_break(document, from);
-        at = draft_paragraph(manner, &document[from..e], store, work, draft, at, left, k);
+        at = draft_paragraph(
+            manner,
+            &document[from..e],
+            store,
+            work,
+            draft,
+            at,
+            &mut left[k],
+        );
         refused += usize::from(left[k]);
         k += 1;
         if e == document.len() {

@@ -11,7 +11,8 @@ use latex2mathml::Manner;
 use latex2mathml::replace::write_replacement;
 use text::put::put;
 
-// Writes a paragraph at a place as it comes out: replaced, or as typed, by the yes or no that drafting put down for it.
+// Writes a paragraph at a place as it comes out: replaced, or as typed, by the yes or no that drafting put down for it; an enum of the two would say no
+// more than the name does.
 fn write_paragraph(
     manner: Manner,
     p: &[u8],

@@ -1,6 +1,6 @@
 // The parser: the functions of the Rust's parse.rs that call one another. Body, store, state and depth are handed on one by one: the state is a value
-// that each call gives anew, so a struct of the four would be made anew before each call. Body and store are the same in all calls, but a struct with the
-// lent store would be lent anew to each call, as the store is now.
+// that each call gives anew, so a struct of the four would be made anew before each call. Body and store are the same in all calls: a struct of the two
+// would be lent to each call just as the store is, and each contract, which speaks of the body and of the store apart, would name both through it.
 #![tactic(auto, using(crate::proofs::RoomLaws::may_next))]
 
 pub mod body;
@@ -255,7 +255,8 @@ fn parse_two(
     make_pair(store, b.after, k, a.node, b.node)
 }
 
-// A brace over or under a target, with an explanation behind the mark.
+// A brace over or under a target, with an explanation behind the mark. Kind and mark are given as in the definition: from a `Side` both would be looked up
+// again.
 #[cycle(parser)]
 fn parse_brace(
     s: &[u8],
@@ -421,5 +422,5 @@ fn parse_group(
         nodes.push(store, n.node);
         q = n.after.next_token(s);
     }
-    make_row(store, q, nodes.first, nodes.count)
+    make_row(store, q, nodes)
 }

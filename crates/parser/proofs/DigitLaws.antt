@@ -3,13 +3,13 @@
 use mathlib.Core.Path.{◌≡◌, refl, sym, ap, ◌∙◌}
 use mathlib.Core.Bool.{Bool, true, false, not, false≢true, and-eq-true_iff}
 use mathlib.Core.List.{List, [], ◌∷◌}
-use Prim.Native.Nat.{ℕ, ◌+◌, ◌≤◌, ◌<◌}
+use Prim.Native.Nat.{ℕ, ◌+◌, ◌≤◌}
 use native.Mathlib.Nat.{add-zero}
 use native.Mathlib.Numerals.{add-one}
 use native.Mathlib.Omega.{arith}
 use denote.Enum.Declared.{tag_of}
 use lib.Dec.{eqb, leb}
-use lib.ListN.{length, drop}
+use lib.ListN.{drop}
 use borrow.Author.Tests.{leb-true, ne_eqb}
 use types.Run.{OneOf}
 use Rattle.text.specs.Utf8.{code_point}
@@ -24,7 +24,7 @@ use Rattle.token.specs.Command.{own_arms, from_command, acts_on_a_digit}
 use Rattle.token.specs.contracts.Token.{the_type}
 use Rattle.lexer.specs.declared.Lexeme.{Lexeme}
 use Rattle.lexer.specs.Lex.{is_whitespace, is_digit, run, skip_whitespace, read_number, lexeme, read_command, number_at, punctuation, letter, of_character, assigns, token_at, next_token}
-use Rattle.lexer.proofs.TokenLaws.{token_number, head_inside}
+use Rattle.lexer.proofs.TokenLaws.{token_number}
 use Rattle.lexer.proofs.NextLaws.{next_read}
 use Rattle.parser.specs.State.{starts_with_digit, following}
 
@@ -117,11 +117,6 @@ next_digit s at is =
 
 -- The token behind t, which acts on a digit, where x is the next token.
 module _ (s : List ℕ) (at : ℕ) (x : Lexeme) (is : x ≡ next_token at (drop at s)) where
-  pub number_inside : {a e : ℕ} → x.token ≡ Number a e → a < length s
-  number_inside {a} number =
-      let digit = next_digit s at (rw is at number) in
-      head_inside s a (λ end. false≢true (ap is_digit (sym end) ∙ digit))
-
   module _ (t : Token) (acts : acts_on_a_digit t ≡ true) where
     -- of a number that begins at the place the first digit is taken
     pub digit_taken : {a e : ℕ} → x.token ≡ Number a e → a ≡ at → lexeme (Number a (a + 1)) a (a + 1) ≡ following t at (drop at s)

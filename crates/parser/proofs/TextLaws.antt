@@ -63,9 +63,6 @@ pub record Passing (s : List ℕ) (from : ℕ) (l : Lexeme) : Type 0 where
   pub ends : l.end ≤ length s
   pub on : (x : Lexeme) → PastLetters s at x → PastLetters s from x
 
-pub passing_none : {s : List ℕ} {from : ℕ} {l : Lexeme} → from ≤ length s → l ≡ next_token from (drop from s) → l.end ≤ length s → Passing s from l
-passing_none {s} {from} {l} inside is ends = record { at = from; inside = inside; is = is; ends = ends; on = λ x h. h }
-
 pub passing_all : {s : List ℕ} {from : ℕ} {l : Lexeme} → Passing s from l → letter_of l.token ≡ none → PastLetters s from l
 passing_all {s} {from} {l} p e = p.on l (past_here s p.at p.inside l p.is e)
 

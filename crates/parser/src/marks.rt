@@ -68,7 +68,8 @@ pub fn paren_of(t: Token) -> Option<u32>
     }
 }
 
-// The text of a fence: a parenthesis, or none for a period, by text 0, which is the empty text.
+// The text of a fence: a parenthesis, or none for a period, by text 0, which is the empty text. It is a number, since a record holds the number of its
+// text, and its printer asks for no other case.
 #[tactic(auto, using(crate::proofs::MarkLaws::fence_as))]
 pub fn fence_of(t: Token) -> Option<u32>
     ensures { result ≡ fence_of t }
@@ -106,7 +107,7 @@ pub fn repeats(side: Side, again: Side) -> bool
     side == again
 }
 
-// The mark of the other limit.
+// The mark of the other limit. It is no `From`, which would be read as the side's own mark.
 pub fn other_limit(side: Side) -> Mark
     ensures { result ≡ other_limit side }
 {

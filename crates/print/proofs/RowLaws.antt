@@ -67,12 +67,6 @@ pub record Going (d : Dialect) (s st : List ℕ) (left : ℕ) (place : Place) (a
   pub finish : (o' : Output) → Prints (NodesAt s st left i (n - k)) (shown_all d place s) o o'
       → Prints (NodesAt s st left a n) (shown_all d place s) o₀ o'
 
-module _ {d : Dialect} {s st : List ℕ} {left : ℕ} {place : Place} {a n : ℕ} {o : Output} where
-  pub going_start : Printable (NodesAt s st left a n) (shown_all d place s) o → Going d s st left place a n o a 0 o
-  going_start p =
-      let all : n - 0 ≡ n = omega arith in
-      record { able = rw all p; finish = λ o' q. rw all at q }
-
 module _ {d : Dialect} {s st : List ℕ} {left : ℕ} {place : Place} {a n : ℕ} {o₀ : Output} {i k : ℕ} {o : Output} (g : Going d s st left place a n o₀ i k o) where
   pub going_node : k < n → Printable (TreeAt s st left i) (shown d place s) o
   going_node some =

@@ -19,7 +19,7 @@ use markup::Place;
 use text::Dialect;
 use text::put::Output;
 
-// Where the part of a node with one part is printed.
+// Where the part of a node with one part is printed. Neither type is of this crate, so it is no `From`.
 fn place_of(k: One) -> Place
     ensures { result ≡ place_of k }
 {

@@ -2,13 +2,13 @@
 -- Assumes nothing.
 use mathlib.Core.Path.{◌≡◌, refl, sym, ◌∙◌, ap, subst, subst⁻¹}
 use mathlib.Core.List.{List, [], ◌++◌, append_assoc, append-nil}
-use Prim.Native.Nat.{ℕ, zero, suc, ◌+◌, ◌/◌, ◌≤◌}
+use Prim.Native.Nat.{ℕ, ◌+◌, ◌≤◌}
 use native.Mathlib.Omega.{arith}
 use native.Mathlib.Nat.{add_assoc, add-zero, zero-add}
 use lib.ListN.{length, take, drop, length-append, length-drop, take-append-drop}
 use lib.Seq.{length-take-le, take_at, drop_at, drop-drop}
 use Rattle.text.specs.declared.put.Output.{Output}
-use Rattle.text.specs.Put.{put, RoomAt, PutsAt, Room, Puts, digits}
+use Rattle.text.specs.Put.{put, RoomAt, PutsAt, Room, Puts}
 
 -- ---- at a place of a buffer
 -- the front of a buffer that has bs at a place inside it
@@ -148,9 +148,3 @@ module _ {o₀ o : Output} {whole : List ℕ} (bs rest : List ℕ) (room : Room 
 
 pub putting_all : {o₀ o : Output} {whole : List ℕ} → Putting o₀ o whole [] → Puts o₀ o whole
 putting_all p = record { same = p.same; puts = putting_at_all p.putting }
-
--- a number of n digits
-pub digits_length : (n v : ℕ) → length (digits n v) ≡ n
-unfolding digits
-digits_length zero v = refl
-digits_length (suc n) v = ap suc (digits_length n (v / 256))

@@ -4,7 +4,7 @@ use mathlib.Core.Path.{◌≡◌, refl, sym, ◌∙◌}
 use mathlib.Core.Bool.{Bool, true, false, ◌&&◌, ◌||◌, and-eq-true_iff, and-false}
 use mathlib.Core.List.{List, [], ◌∷◌, ◌++◌, map}
 use mathlib.Core.Option.{Option, none, some}
-use Prim.Native.Nat.{ℕ, zero, suc, ◌+◌, ◌-◌, ◌*◌, ◌≤◌, ◌<◌}
+use Prim.Native.Nat.{ℕ, suc, ◌+◌, ◌-◌, ◌*◌, ◌≤◌, ◌<◌}
 use native.Mathlib.Omega.{arith}
 use lib.Dec.{leb, ltb, lit≤, lit<}
 use lib.ListN.{length, drop, length-drop}
@@ -33,28 +33,6 @@ bounds r b e =
 pub hit : (b : ℕ) (row : Row) (rows : List Row) → row.first.low ≤ b → b ≤ row.first.high → follow b (row ∷ rows) ≡ some row.after
 unfolding follow
 hit b row rows h k = rw (inside row.first b h k, follow)
-
--- the first n rows end below b
-abbrev pub Passed : ℕ → ℕ → List Row → Type 0
-Passed zero b rows = Unit {0}
-Passed (suc n) b [] = Unit {0}
-Passed (suc n) b (row ∷ rows) = (row.first.high < b) × Passed n b rows
-
-pub passed : (n b : ℕ) (rows : List Row) → Passed n b rows → follow b rows ≡ follow b (drop n rows)
-unfolding follow
-passed zero b rows h = refl
-passed (suc n) b [] h = refl
-passed (suc n) b (row ∷ rows) h = rw (beyond row.first b h.0, follow) (passed n b rows h.1)
-
--- the rows all begin above b
-abbrev pub Ahead : ℕ → List Row → Type 0
-Ahead b [] = Unit {0}
-Ahead b (row ∷ rows) = (b < row.first.low) × Ahead b rows
-
-pub missed : (b : ℕ) (rows : List Row) → Ahead b rows → follow b rows ≡ none
-unfolding follow
-missed b [] h = refl
-missed b (row ∷ rows) h = rw (beneath row.first b h.0, follow) (missed b rows h.1)
 
 -- nothing follows an ASCII byte
 pub ascii_row : (b : ℕ) → b < 128 → follow b table ≡ some []

@@ -53,8 +53,8 @@ impl<'a> Output<'a> {
     }
 }
 
-// Puts a piece at a place of a buffer, and answers the place behind it: for callers that keep buffer and place apart, as they only count what does
-// not fit, and their place may then lie behind the buffer's end, where that of an output that is put to never does.
+// Puts a piece at a place of a buffer, and answers the place behind it: for callers that are lent a buffer of which they write one piece, or whose
+// place may lie behind its end, where that of an output never does.
 pub fn put(piece: &[u8], out: &mut [u8], at: usize) -> usize
     requires { RoomAt out.old at (length piece.now) }
     ensures { PutsAt out.old out.new at piece.now result }

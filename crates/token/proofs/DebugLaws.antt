@@ -4,7 +4,7 @@ use Rattle.std.specs.Prelude.{◌≡◌, ℕ, suc, Option, Some, None, ◌+◌, 
 use mathlib.Core.Path.{refl, sym, ap, ◌∙◌}
 use mathlib.Core.Logic.{inl, inr}
 use mathlib.Core.List.{append_assoc, append-nil}
-use lib.ListN.{drop, drop_of_length-le}
+use lib.ListN.{drop, drop_of_length-le, length-append}
 use lib.Seq.{drop-cons}
 use native.Mathlib.Numerals.{add-one}
 use Rattle.std.specs.Borrow.{Bor}
@@ -110,6 +110,11 @@ pub twice_next : (d : Dialect) (l : List ℕ) (i : ℕ) → i < length l
 twice_next d l i h =
     rw (add-one, drop-cons l i 0 h, twice_cons (get_or l i 0) (drop (suc i) l)) (text_append d _ _)
 
+pub next_long : (d : Dialect) (l : List ℕ) (i : ℕ) → i < length l
+    → length (in_text d (escape (escape (drop i l)))) ≡ length (in_text d (escape (escape_by escapes (get_or l i 0)))) + length (in_text d (escape (escape (drop (i + 1) l))))
+next_long d l i h =
+    ap length (twice_next d l i h) ∙ length-append (in_text d (escape (escape_by escapes (get_or l i 0)))) (in_text d (escape (escape (drop (i + 1) l))))
+
 pub twice_none : (d : Dialect) (l : List ℕ) (i : ℕ) → length l ≤ i → in_text d (escape (escape (drop i l))) ≡ []
 unfolding escape xml_text
 twice_none d l i h = rw (drop_of_length-le l h) (same_text d [] refl)
@@ -143,6 +148,17 @@ command_pieces d l =
     ∙ text_append d (escape front) (escape name ++ escape back)
     ∙ rw (text_append d (escape name) (escape back), same_text d (escape front) refl, same_text d (escape back) refl)
     (sym (append_assoc (escape front) (in_text d (escape name)) (escape back)))
+
+pub command_long : (d : Dialect) (s : List ℕ) (a e : ℕ)
+    → length (in_text d (escape (debug s (Undefined.Command a e)))) ≡ 13 + length (in_text d (escape (escape (or_nul (part a e s)))))
+unfolding text_opens escapes escape_by escape control
+command_long d s a e =
+    let l = part a e s in
+    let front = escape (bytes "Command(\"") in
+    let name = in_text d (escape (escape (or_nul l))) in
+    let back = escape (bytes "\")") in
+    let whole = ap length (command_debug d s a e ∙ command_pieces d l) in
+    omega (arith, whole, length-append (front ++ name) back, length-append front name)
 
 -- the name of a command: none is a NUL
 pub nul_none : (l : List ℕ) → length l ≡ 0 → escape (escape (or_nul l)) ≡ escape (escape_by escapes 0)

@@ -1,7 +1,7 @@
 // The Debug text of the tokens that become `Undefined`, escaped once more, as the error text has it, in a dialect. It is written by hand, since a
 // derived Debug promises nothing of the bytes that it writes. Each text has its length from a function of its own, as in `text::put`; dialect and
 // output are two parameters, since one is only read and the other written.
-ghost use Rattle.std.specs.Prelude.{◌≡◌, ◌+◌, ◌*◌, ◌≤◌, length};
+ghost use Rattle.std.specs.Prelude.{◌≡◌, ◌^◌, ◌<◌, length};
 ghost use Rattle.text.specs.Put.{Room, Puts};
 ghost use Rattle.text.specs.Xml.{in_text};
 ghost use Rattle.token.specs.Debug.{escapes, escape_by, escape, or_nul, variant_name, command_text, debug, Inside, Stands};
@@ -82,7 +82,7 @@ fn put_byte(dialect: Dialect, b: u8, out: &mut Output)
 
 // The length of a byte of a name, escaped twice.
 fn byte_len(dialect: Dialect, b: u8) -> usize
-    ensures { (result ≡ length (in_text dialect (escape (escape_by escapes b)))) × (result ≤ 7) }
+    ensures { result ≡ length (in_text dialect (escape (escape_by escapes b))) }
 {
     match escaped_in(dialect, b) {
         Some(text) => text.len(),
@@ -105,8 +105,8 @@ fn put_name(dialect: Dialect, name: &[u8], out: &mut Output)
 
 // The length of the name of a command, escaped twice.
 fn name_len(dialect: Dialect, name: &[u8]) -> usize
-    requires { length name.now ≤ 4096 }
-    ensures { (result ≡ length (in_text dialect (escape (escape (or_nul name.now))))) × (result ≤ 28672) }
+    requires { length (in_text dialect (escape (escape (or_nul name.now)))) < 2 ^ 64 }
+    ensures { result ≡ length (in_text dialect (escape (escape (or_nul name.now)))) }
 {
     if name.is_empty() {
         return byte_len(dialect, 0);
@@ -158,7 +158,7 @@ pub fn put_debug(dialect: Dialect, s: &[u8], u: Undefined, out: &mut Output)
 
 // The length of the Debug text of a token, escaped once more.
 pub fn debug_len(dialect: Dialect, s: &[u8], u: Undefined) -> usize
-    requires { Inside (length s.now) u × (length s.now ≤ 4096) }
+    requires { Inside (length s.now) u × (length (in_text dialect (escape (debug s.now u))) < 2 ^ 64) }
     ensures { result ≡ length (in_text dialect (escape (debug s.now u))) }
 {
     match u {

@@ -1,5 +1,6 @@
 // The tokens of LaTeX: the Rust's token.rs. A character is its code point, a string is the number of a fixed text, or the
-// place of its first byte in the body and the place after its last.
+// place of its first byte in the body and the place after its last. The two places are no struct: a record of the store holds them as two numbers,
+// the definitions take them as two, and a `Range` is not Copy.
 #![tactic(auto)]
 
 pub mod debug;
@@ -69,8 +70,8 @@ pub enum Undefined {
     Command(usize, usize),
 }
 
-// The tokens that the parser asks for by name. Each token has one mark, and one that is not asked for has `Other`: an `Option` of a mark would be
-// taken apart at each comparison.
+// The tokens that the parser asks for by name. Each token has one mark, and one that is not asked for has `Other`, as in the definition: with an
+// `Option` each mark that is asked for would be wrapped in `Some`.
 #[derive(Clone, Copy, PartialEq, Eq)]
 pub enum Mark {
     EOF,

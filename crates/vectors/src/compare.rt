@@ -6,8 +6,8 @@ use crate::ask::ask;
 use crate::case::{Case, Numbers, Question};
 use crate::packed::Filled;
 
-// Whether an answer is the stored one; where it is not, the error is the number that came, and 0 where nothing known was asked. The number is only told,
-// and the letter told beside it says which of the two it is, so an enum of both would be no plainer.
+// Whether an answer is the stored one; where it is not, the error is the number that came, 0 for an acceptance, as in the list, and where nothing known
+// was asked. The number is only told, and what was asked is told beside it, so an enum of the three would be no plainer.
 pub type Verdict = Result<(), usize>;
 
 // Whether the numbers of an answer are the stored ones.

@@ -54,22 +54,27 @@ impl Tally {
         self
     }
 
-    // One answer more, told if it differs, with the letter of its kind.
-    fn with_answer(mut self, rt: &impl Print, kind: char, verdict: Verdict) -> Tally
+    // One answer more, told if it differs; a case that asks nothing known has no question.
+    fn with_answer(mut self, rt: &impl Print, asked: Option<Question>, verdict: Verdict) -> Tally
         requires { AtMost self 2000000 }
         ensures { Grows self result 1 }
     {
         self.answers += 1;
         if let Err(number) = verdict {
-            tell(rt, self.cases, kind, number);
+            tell(rt, self.cases, asked, number);
             self.differ += 1;
         }
         self
     }
 }
 
-// Tells an answer that differs by the number of its line, its kind and the number that came; what cannot be written is still counted.
-fn tell(rt: &impl Print, line: u64, kind: char, number: usize) {
+// Tells an answer that differs by the number of its line, the letter of what was asked and the number that came; what cannot be written is still
+// counted.
+fn tell(rt: &impl Print, line: u64, asked: Option<Question>, number: usize) {
+    let kind = match asked {
+        Some(question) => question.letter(),
+        None => '?',
+    };
     let _ = println!(rt; "line {line}, {kind}: answered {number}, and differs");
 }
 
@@ -87,7 +92,7 @@ fn count_answer(
     ensures { Grows tally result 1 }
 {
     let verdict = compare(case, question, text, line);
-    tally.with_answer(rt, question.letter(), verdict)
+    tally.with_answer(rt, Some(question), verdict)
 }
 
 // Asks what a case says, and counts each answer; one that asks nothing known differs.
@@ -103,7 +108,7 @@ fn count_answers(rt: &impl Print, case: Case, text: &[u8], line: &[u8], tally: T
             count_answer(rt, case, inline, text, line, first)
         }
         Some(Asked::One(question)) => count_answer(rt, case, question, text, line, tally),
-        None => tally.with_answer(rt, '?', Err(0)),
+        None => tally.with_answer(rt, None, Err(0)),
     }
 }
 

@@ -15,7 +15,8 @@ fn digit(b: u8) -> Option<usize>
     }
 }
 
-// Takes a number in decimal, up to the first byte that is no digit, and 0 where none stands there.
+// Takes a number in decimal, up to the first byte that is no digit. Where none stands there it is 0, which the list leaves out; a letter that takes
+// no number has none behind it.
 pub fn decimal(line: &mut &[u8]) -> usize
     ensures { (length line.new.now ≤ length line.old.now) × (result < 1000000) }
 {

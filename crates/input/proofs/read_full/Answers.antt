@@ -1,6 +1,6 @@
 use Rattle.std.proofs.Common.{rules, arith, ◌≡◌, ℕ, ◌+◌, ◌-◌, ◌≤◌, List, ◌++◌, length, take, sym, ap, ◌∙◌, subst, length-take-le}
 use Rattle.std.specs.Io.KnownBytes.{Consumes}
-use Rattle.std.proofs.KnownBytes.{Consumes-nil, Consumes-trans}
+use Rattle.std.proofs.KnownBytes.{Consumes-trans}
 use borrow.Rule.Slice.PartMut.{put_mid, post_of}
 use lib.Seq.{take-append-add, take-append-le}
 use Rattle.input.proofs.read_full.Goals as goal
@@ -17,20 +17,8 @@ joined a n m old given within fits sum =
     ∙ take-append-add (take a old) (given ++ behind) n
     ∙ ap (λ l. take a old ++ l) (take-append-le n given behind fits))
 
-pub loop-done-init : goal.loop-done-init
-loop-done-init g c = (search rules, search rules, Consumes-nil _)
-
 pub loop-done-preserved : goal.loop-done-preserved
 loop-done-preserved g c =
     let l = c.loop-done in
     let e = joined l.done c.in_ok-n.n (l.done + c.in_ok-n.n) l.input c.read.new.buf l.invariant.1 c.in_ok-n.ensures.bound.0 (search rules) in
     (search rules, search rules, subst (Consumes _ _) e (Consumes-trans _ _ _ _ _ l.invariant.2 c.in_ok-n.ensures.bytes.0))
-
-pub returns-after-loop-done-clause-bytes : goal.returns-after-loop-done-clause-bytes
-returns-after-loop-done-clause-bytes g c = c.loop-done.invariant.2
-
-pub returns-then-n-eq0-clause-bytes : goal.returns-then-n-eq0-clause-bytes
-returns-then-n-eq0-clause-bytes g c =
-    let l = c.loop-done in
-    let e = joined l.done c.in_ok-n.n l.done l.input c.read.new.buf l.invariant.1 c.in_ok-n.ensures.bound.0 (omega arith) in
-    subst (Consumes _ _) e (Consumes-trans _ _ _ _ _ l.invariant.2 c.in_ok-n.ensures.bytes.0)

@@ -14,8 +14,8 @@ returns-in_err-env c =
 
 pub returns-in-Row : goal.returns-in-Row
 returns-in-Row c =
-    rw c.in_ok-env.ensures.ok_part (opened_row c.args.store.now c.args.content c.get_record-r.ensures.0 c.role_of.ensures c.make_matrix.new.store c.args.p c.make_matrix.result _ c.in-Row.n c.in-Row.is c.make_matrix.ensures)
+    rw c.in_ok-env.ensures.ok_part (opened_row c.args.store.now c.args.content c.get_record-r.ensures.0 c.from.ensures c.make_matrix.new.store c.args.p c.make_matrix.result _ c.in-Row.n c.in-Row.is c.make_matrix.ensures)
 
 pub returns-in_default : goal.returns-in_default
 returns-in_default c =
-    rw c.in_ok-env.ensures.ok_part (opened_other c.args.store.now c.args.content c.get_record-r.ensures.0 c.role_of.ensures c.make_matrix-in_default.new.store c.args.p c.make_matrix-in_default.result _ (opened c.in_default.in_default-own.keys2) c.make_matrix-in_default.ensures)
+    rw c.in_ok-env.ensures.ok_part (opened_other c.args.store.now c.args.content c.get_record-r.ensures.0 c.from.ensures c.make_matrix-in_default.new.store c.args.p c.make_matrix-in_default.result _ (opened c.in_default.in_default-own.keys2) c.make_matrix-in_default.ensures)

@@ -1,17 +1,15 @@
 use mathlib.Core.Path.{refl, sym, ap, ◌∙◌}
 use Prim.Native.Nat.{◌-◌}
-use lib.Dec.{lit≤}
 use lib.ListN.{length}
 use Rattle.token.specs.declared.Mark.{Mark}
 use Rattle.text.proofs.Cases.{never}
 use Rattle.parser.specs.Parse.{parse_bare, refused, opened, in_environment}
-use Rattle.parser.specs.Sound.{least}
 use Rattle.parser.specs.Marks.{other_limit}
 use Rattle.parser.proofs.AnswerLaws.{handed_on, none_or}
 use Rattle.parser.proofs.BodyLaws.{node_keeps, single_keeps}
 use Rattle.parser.proofs.MarkLaws.{one_mark}
 use Rattle.parser.proofs.MoveLaws.{text_sound}
-use Rattle.parse.proofs.RoomLaws.{may_next, begins, starts_ready, ready_starts, ready_ends, ends_next, starts_next, ends_mark, ends_script, starts_text, ends_free, starts_free, node_ends, group_ends, ready_node, ready_free, prime_free, wide_3, next_made, text_made, bare_keeps}
+use Rattle.parse.proofs.RoomLaws.{may_next, begins, starts_ready, ready_starts, ready_ends, ends_next, starts_next, ends_mark, ends_script, starts_text, ends_free, starts_free, node_ends, group_ends, ready_node, ready_free, prime_free, next_made, text_made, bare_keeps}
 use Rattle.parse.proofs.SeqLaws.{below, after_none, plain_leaf, leaf_before, after_one, first_below, after_two, after_behind, after_two_swapped, old_below, beside_one, beside_two, as_two, left_alone, after_prime, after_set, bare_as}
 use Rattle.parse.proofs.LeafLaws.{bare_leaf, alone_is, alone_script, leaf_placed}
 use Rattle.parse.proofs.LoopLaws.{loops_none, loops_ready, loops_few, loops_free, more_ends, more_push, more_less}
@@ -19,20 +17,6 @@ use Rattle.parse.proofs.GroupLaws.{group_end, group_refused, group_closed, group
 use Rattle.parse.proofs.WayLaws.{one_no, one_is, style_no, style_is, middle_no, middle_is, two_no, two_no_2, two_is, brace_no, brace_bare, brace_no_2, brace_is, sqrt_no, sqrt_is, root_no, root_no_2, root_is, slashed_no, slashed_is, left_no, left_no_2, left_is, begin_no, begin_is, node_no, node_is, scripts_none, scripts_no, scripts_is, second_none, second_again, second_no, second_is, limits_alone, limits_no, limit_is, limits_no_2, limits_is, lim_alone, lim_no, lim_is, node_few, single_zero, node_more, single_more, bare_no, bare_is, group_is, other_byte}
 use native.Mathlib.Omega.{arith}
 use Rattle.parse.proofs.+parser.Goals as goal
-
-pub parse_bare-parse_brace-requires : goal.parse_bare-parse_brace-requires
-unfolding least
-parse_bare-parse_brace-requires t c =
-    (omega arith, ((c.requires, wide_3 c.args.s.now c.args.p _ c.requires.sound c.in-Overbrace.is (lit≤ tt)), (λ e. never cc)))
-
-pub parse_bare-parse_brace-requires-in-Underbrace : goal.parse_bare-parse_brace-requires-in-Underbrace
-unfolding least
-parse_bare-parse_brace-requires-in-Underbrace t c =
-    (omega arith, ((c.requires, wide_3 c.args.s.now c.args.p _ c.requires.sound c.in-Underbrace.is (lit≤ tt)), (λ e. never cc)))
-
-pub parse_bare-parse_group-requires : goal.parse_bare-parse_group-requires
-parse_bare-parse_group-requires t c =
-    (omega arith, (c.requires, (λ e. never cc)))
 
 pub parse_bare-make_leaf-requires : goal.parse_bare-make_leaf-requires
 parse_bare-make_leaf-requires t c =
@@ -251,10 +235,6 @@ parse_brace-returns-in_err-expl t c =
     let g = c.in_ok-target.ensures in
     rw (handed_on _ c.from_residual-in_err-expl.ensures.1) (brace_no_2 _ c.args.s.now c.args.p c.next_token-begin.ensures c.args.k c.args.mark c.args.x g.is (sym c.peek_token_is.ensures ∙ c.if-not-peek_token_is.false) c.next_token.ensures c.next_token-operand.ensures c.in_err-expl.ensures)
 
-pub parse_brace-shape_of-store : goal.parse_brace-shape_of-store
-parse_brace-shape_of-store t c =
-    c.make_explained.auto.store ∙ c.parse_single_node-2.auto.store ∙ c.parse_single_node.auto.store
-
 pub parse_brace-returns : goal.parse_brace-returns
 parse_brace-returns t c =
     let g = c.in_ok-target.ensures in
@@ -277,10 +257,6 @@ parse_group-make_row-requires t c =
     let s = e.small in
     (e, c.loop-end.invariant.1.small, omega arith)
 
-pub parse_group-shape_of-store : goal.parse_group-shape_of-store
-parse_group-shape_of-store t c =
-    c.make_row.auto.store ∙ c.loop-end.invariant.0
-
 pub parse_group-returns : goal.parse_group-returns
 parse_group-returns t c =
     group_closed _ c.args.s.now c.args.end c.loop-end.invariant.1 _ c.args.p _ c.make_row.result (one_mark _ c.args.end Mark.EOF (sym c.cur_token_is.ensures ∙ c.loop-end-test.false) c.requires.1) (sym c.cur_token_is.ensures ∙ c.loop-end-test.false) (next_made _ c.args.p c.next_token-q.ensures) (group_is _ c.args.s.now c.args.end c.args.p c.next_token-q.ensures) c.make_row.ensures
@@ -288,10 +264,6 @@ parse_group-returns t c =
 pub parse_group-parse_node-requires : goal.parse_group-parse_node-requires
 parse_group-parse_node-requires t c =
     (omega arith, loops_ready c.loop-end.invariant.1 (sym c.cur_token_is-in-loop-end.ensures ∙ c.if-cur_token_is.false))
-
-pub parse_group-shape_of-store-in_err-n : goal.parse_group-shape_of-store-in_err-n
-parse_group-shape_of-store-in_err-n t c =
-    c.parse_node.auto.store ∙ c.loop-end.invariant.0
 
 pub parse_group-returns-in_err-n : goal.parse_group-returns-in_err-n
 parse_group-returns-in_err-n t c =
@@ -352,10 +324,6 @@ parse_left-returns t c =
     let g = c.in_ok-content.ensures in
     after_one _ _ c.args.p _ _ _ _ (next_made _ c.args.p c.next_token-begin.ensures) g _ _ _ _ c.make_fenced.result (next_made _ _ c.next_token-after.ensures) c.make_fenced.ensures (left_is _ c.args.s.now c.args.p c.next_token-begin.ensures (sym c.fence_of.ensures ∙ c.in_ok-first.ensures.ok_part) g.is c.next_token-after.ensures)
 
-pub parse_lim-make_leaf-requires : goal.parse_lim-make_leaf-requires
-parse_lim-make_leaf-requires t c =
-    (ends_free 1 (ready_ends c.requires.0 c.requires.1) (omega arith), tt)
-
 pub parse_lim-returns-then-not-peek_token_is : goal.parse_lim-returns-then-not-peek_token_is
 parse_lim-returns-then-not-peek_token_is t c =
     after_none _ _ c.args.p c.args.p _ _ c.make_leaf.result refl c.make_leaf.ensures (lim_alone _ c.args.s.now c.args.p c.args.t (sym c.peek_token_is.ensures ∙ c.if-not-peek_token_is.true))
@@ -382,10 +350,6 @@ pub parse_lim-returns : goal.parse_lim-returns
 parse_lim-returns t c =
     let g = c.in_ok-under.ensures in
     after_one _ _ c.args.p _ _ _ _ ((next_made _ _ c.next_token-begin.ensures) ∙ (next_made _ c.args.p c.next_token.ensures)) g _ _ _ _ c.make_leaf_first.result refl c.make_leaf_first.ensures (lim_is _ c.args.s.now c.args.p c.args.t (sym c.peek_token_is.ensures ∙ c.if-not-peek_token_is.false) c.next_token.ensures c.next_token-begin.ensures g.is)
-
-pub parse_limits-make_alone-requires : goal.parse_limits-make_alone-requires
-parse_limits-make_alone-requires t c =
-    ends_free 1 (ready_ends c.requires.0 c.requires.1) (omega arith)
 
 pub parse_limits-next_token-begin-requires : goal.parse_limits-next_token-begin-requires
 parse_limits-next_token-begin-requires t c =
@@ -435,18 +399,10 @@ parse_limits-returns-in_err-x t c =
     let g = c.in_err-x.ensures in
     rw (handed_on _ c.from_residual.ensures.1) (limits_no _ c.args.s.now c.args.k c.args.p c.next_token.ensures c.next_token-begin.ensures c.in-Some.side (sym c.script_of.ensures ∙ c.in-Some.is) g)
 
-pub parse_limits-shape_of-store-in_err-y : goal.parse_limits-shape_of-store-in_err-y
-parse_limits-shape_of-store-in_err-y t c =
-    c.parse_single_node-2.auto.store ∙ c.parse_single_node.auto.store
-
 pub parse_limits-returns-in_err-y : goal.parse_limits-returns-in_err-y
 parse_limits-returns-in_err-y t c =
     let g = c.in_ok-x.ensures in
     rw (handed_on _ c.from_residual-in_err-y.ensures.1) (limits_no_2 _ c.args.s.now c.args.k c.args.p c.next_token.ensures c.next_token-begin.ensures g.is c.next_token-2.ensures c.next_token-operand.ensures c.in-Some.side (sym c.script_of.ensures ∙ c.in-Some.is) (rw c.other_limit.ensures at (sym c.peek_token_is.ensures ∙ c.if-not-peek_token_is.false)) c.in_err-y.ensures)
-
-pub parse_limits-shape_of-store : goal.parse_limits-shape_of-store
-parse_limits-shape_of-store t c =
-    c.make_limits.auto.store ∙ c.parse_single_node-2.auto.store ∙ c.parse_single_node.auto.store
 
 pub parse_limits-returns : goal.parse_limits-returns
 parse_limits-returns t c =
@@ -485,16 +441,6 @@ pub parse_node-returns-then-stands_alone : goal.parse_node-returns-then-stands_a
 parse_node-returns-then-stands_alone t c =
     after_none _ _ c.args.p c.args.p _ _ c.make_leaf.result refl (λ lo e. (rw c.leaf_of.ensures at c.make_leaf.ensures) lo (leaf_before _ lo _ c.args.p.cur.token e)) (alone_is c.args.depth c.args.s.now c.args.p c.if-depth-lt2.false (sym c.stands_alone.ensures ∙ c.if-stands_alone.true))
 
-pub parse_node-parse_single_node-requires : goal.parse_node-parse_single_node-requires
-parse_node-parse_single_node-requires t c =
-    let z = c.if-depth-lt2.false in
-    (omega arith, c.requires)
-
-pub parse_node-overflow_sub-depth-2 : goal.parse_node-overflow_sub-depth-2
-parse_node-overflow_sub-depth-2 t c =
-    let z = c.if-depth-lt2.false in
-    omega arith
-
 pub parse_node-scripts-requires : goal.parse_node-scripts-requires
 parse_node-scripts-requires t c =
     let z = c.if-depth-lt2.false in
@@ -505,10 +451,6 @@ pub parse_node-returns-in_err-base : goal.parse_node-returns-in_err-base
 parse_node-returns-in_err-base t c =
     let g = c.in_err-base.ensures in
     rw (handed_on _ c.from_residual.ensures.1) (node_more c.args.depth c.args.s.now c.args.p c.if-depth-lt2.false ∙ node_no _ c.args.s.now c.args.p g)
-
-pub parse_node-shape_of-store : goal.parse_node-shape_of-store
-parse_node-shape_of-store t c =
-    c.scripts.auto.store ∙ c.parse_single_node.auto.store
 
 pub parse_node-returns : goal.parse_node-returns
 parse_node-returns t c =
@@ -537,11 +479,6 @@ parse_one-returns t c =
 pub parse_single_node-returns-then-depth-eq0 : goal.parse_single_node-returns-then-depth-eq0
 parse_single_node-returns-then-depth-eq0 t c =
     single_zero c.args.depth c.args.s.now c.args.p c.if-depth-eq0.true
-
-pub parse_single_node-parse_bare-requires : goal.parse_single_node-parse_bare-requires
-parse_single_node-parse_bare-requires t c =
-    let z = c.if-depth-eq0.false in
-    (omega arith, c.requires)
 
 pub parse_single_node-finish_prime-requires : goal.parse_single_node-finish_prime-requires
 parse_single_node-finish_prime-requires t c =
@@ -619,10 +556,6 @@ parse_sqrt-make_two-requires t c =
     let h = c.in_ok-content.ensures in
     (ends_free 1 (node_ends c.parse_node.auto.store 5 (ends_next (group_ends c.parse_group.auto.store Mark.RBracket (begins c.requires.0 c.requires.1 c.next_token-begin.ensures) (node_keeps c.args.depth c.args.s.now) (λ e. never cc) g) c.next_token-after.ensures) (omega arith) (node_keeps c.args.depth c.args.s.now) h) (omega arith), below h, first_below _ _ c.args.p _ _ _ _ (next_made _ c.args.p c.next_token-begin.ensures) g _ _ _ _ _ (next_made _ _ c.next_token-after.ensures) h)
 
-pub parse_sqrt-shape_of-store-then-cur_token_is : goal.parse_sqrt-shape_of-store-then-cur_token_is
-parse_sqrt-shape_of-store-then-cur_token_is t c =
-    c.make_two.auto.store ∙ c.parse_node.auto.store ∙ c.parse_group.auto.store
-
 pub parse_sqrt-returns-then-cur_token_is : goal.parse_sqrt-returns-then-cur_token_is
 parse_sqrt-returns-then-cur_token_is t c =
     let g = c.in_ok-degree.ensures in
@@ -699,10 +632,6 @@ parse_two-returns-in_err-b t c =
     let g = c.in_ok-a.ensures in
     rw (handed_on _ c.from_residual-in_err-b.ensures.1) (two_no_2 _ c.args.s.now c.args.p c.next_token-begin.ensures g.is c.next_token-after.ensures c.args.k c.in_err-b.ensures)
 
-pub parse_two-shape_of-store : goal.parse_two-shape_of-store
-parse_two-shape_of-store t c =
-    c.make_pair.auto.store ∙ c.parse_node-2.auto.store ∙ c.parse_node.auto.store
-
 pub parse_two-returns : goal.parse_two-returns
 parse_two-returns t c =
     let g = c.in_ok-a.ensures in
@@ -742,18 +671,10 @@ scripts-returns-in_err-x t c =
     let g = c.in_err-x.ensures in
     rw (handed_on _ c.from_residual.ensures.1) (λ lo n h. scripts_no _ c.args.s.now c.args.p c.next_token.ensures c.next_token-begin.ensures c.in-Some.side (sym c.script_of.ensures ∙ c.in-Some.is) g n)
 
-pub scripts-shape_of-store : goal.scripts-shape_of-store
-scripts-shape_of-store t c =
-    c.second.auto.store ∙ c.parse_single_node.auto.store
-
 pub scripts-returns : goal.scripts-returns
 scripts-returns t c =
     let g = c.in_ok-x.ensures in
     beside_one _ _ c.args.p _ _ _ _ (next_made _ _ c.next_token-begin.ensures ∙ next_made _ c.args.p c.next_token.ensures) g c.args.base _ _ _ _ c.second.result refl c.second.ensures (scripts_is _ c.args.s.now c.args.p c.next_token.ensures c.next_token-begin.ensures c.in-Some.side (sym c.script_of.ensures ∙ c.in-Some.is) g.is)
-
-pub second-make_two-requires : goal.second-make_two-requires
-second-make_two-requires t c =
-    (ends_free 1 c.requires.0 (omega arith), c.requires.1, c.requires.2)
 
 pub second-returns-then-repeats : goal.second-returns-then-repeats
 second-returns-then-repeats t c =
@@ -780,10 +701,6 @@ pub second-returns-in_err-y : goal.second-returns-in_err-y
 second-returns-in_err-y t c =
     let g = c.in_err-y.ensures in
     rw (handed_on _ c.from_residual.ensures.1) (λ lo m n mid u v. second_no _ c.args.s.now c.args.p c.next_token.ensures c.next_token-begin.ensures c.args.side c.in-Some.again (sym c.script_of.ensures ∙ c.in-Some.is) (sym c.repeats.ensures ∙ c.if-repeats.false) g m n)
-
-pub second-shape_of-store : goal.second-shape_of-store
-second-shape_of-store t c =
-    c.make_scripts.auto.store ∙ c.parse_single_node.auto.store
 
 pub second-returns : goal.second-returns
 second-returns t c =

@@ -19,7 +19,7 @@ returns-in-24 c = rw c.in-24.is
 pub returns-in-36-to-255 : goal.returns-in-36-to-255
 returns-in-36-to-255 c =
     let b = c.args.behind in
-    let row : true ≡ is_row (role_of (shape_of (fields_of c.args.r))) = sym c.if-is_row.true ∙ c.is_row.ensures ∙ ap (λ k. is_row k) c.role_of.ensures in
+    let row : true ≡ is_row (role_of (shape_of (fields_of c.args.r))) = sym c.if-is_row.true ∙ c.is_row.ensures ∙ ap (λ k. is_row k) c.from.ensures in
     rw (matrix_fate b.tag b.attr b.x b.y (is_row (role_of (shape_of (fields_of c.args.r)))) (omega arith), ← row) refl
 
 pub returns-in_default : goal.returns-in_default
@@ -35,5 +35,5 @@ returns-in_default-2 c =
 pub returns-in_default-3 : goal.returns-in_default-3
 returns-in_default-3 c =
     let b = c.args.behind in
-    let row : false ≡ is_row (role_of (shape_of (fields_of c.args.r))) = sym c.if-is_row.false ∙ c.is_row.ensures ∙ ap (λ k. is_row k) c.role_of.ensures in
+    let row : false ≡ is_row (role_of (shape_of (fields_of c.args.r))) = sym c.if-is_row.false ∙ c.is_row.ensures ∙ ap (λ k. is_row k) c.from.ensures in
     rw (matrix_fate b.tag b.attr b.x b.y (is_row (role_of (shape_of (fields_of c.args.r)))) (omega arith), ← row) refl

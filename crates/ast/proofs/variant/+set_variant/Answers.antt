@@ -7,13 +7,13 @@ use Rattle.ast.proofs.variant.+set_variant.Goals as goal
 
 pub returns-in-Letter : goal.returns-in-Letter
 returns-in-Letter t c =
-    let e = ap (λ q. role_of (shape_of (fields_of q))) (sym c.get_record-r.ensures.0) ∙ sym c.role_of.ensures ∙ c.in-Letter.is in
-    sets_letter c.args.store.now _ c.args.i c.args.v e (rw c.from.ensures at c.set_attr.ensures)
+    let e = ap (λ q. role_of (shape_of (fields_of q))) (sym c.get_record-r.ensures.0) ∙ sym c.from.ensures ∙ c.in-Letter.is in
+    sets_letter c.args.store.now _ c.args.i c.args.v e (rw c.from-in-Letter.ensures at c.set_attr.ensures)
 
 pub loop-init : goal.loop-init
 loop-init t c =
     let read = c.get_record-r.ensures.0 in
-    let e = sym c.in-Row.is ∙ c.role_of.ensures ∙ ap (λ q. role_of (shape_of (fields_of q))) read in
+    let e = sym c.in-Row.is ∙ c.from.ensures ∙ ap (λ q. role_of (shape_of (fields_of q))) read in
     (refl, rw read (goes_row c.args.store.now c.args.i c.args.v _ e))
 
 pub set_variant-requires : goal.set_variant-requires
@@ -42,5 +42,5 @@ returns-after-loop t c = goes_done c.args.store.now c.args.i c.args.v _ _ _ _ c.
 
 pub returns-in_default : goal.returns-in_default
 returns-in_default t c =
-    let e = c.role_of.ensures ∙ ap (λ q. role_of (shape_of (fields_of q))) c.get_record-r.ensures.0 in
+    let e = c.from.ensures ∙ ap (λ q. role_of (shape_of (fields_of q))) c.get_record-r.ensures.0 in
     sets_none c.args.store.now c.args.i c.args.v _ e c.in_default.not-Letter c.in_default.not-Row

@@ -11,18 +11,12 @@ loop-store-init c =
     let d = c.default-nodes.ensures in
     (refl, body_none c.args.depth c.args.s.now c.args.store.now _ c.requires.0 c.requires.1 c.new-q.ensures d.0 d.1.0 d.1.1)
 
-pub shape_of-store : goal.shape_of-store
-shape_of-store c = c.loop-store.invariant.0
-
 pub returns : goal.returns
 returns c =
     body_end c.args.depth c.args.s.now c.loop-store.invariant.1 (sym c.cur_token_is.ensures ∙ c.loop-store-test.false)
 
 pub parse_node-requires : goal.parse_node-requires
 parse_node-requires c = loops_ready c.loop-store.invariant.1 (sym c.cur_token_is.ensures ∙ c.loop-store-test.true)
-
-pub shape_of-store-in_err-n : goal.shape_of-store-in_err-n
-shape_of-store-in_err-n c = c.parse_node.auto.store ∙ c.loop-store.invariant.0
 
 pub returns-in_err-n : goal.returns-in_err-n
 returns-in_err-n c =

@@ -1,9 +1,9 @@
--- `ast::codes::role_of` meets its contract.
+-- `Role::from`, of a record, meets its contract.
 use mathlib.Core.Path.{sym}
 use native.Mathlib.Omega.{arith}
 use Rattle.ast.specs.Shape.{shapes, shape_of}
 use Rattle.ast.proofs.ShapeLaws.{other_role}
-use Rattle.ast.proofs.codes.role_of.Goals as goal
+use Rattle.ast.proofs.codes.RoleFromRecord.from.Goals as goal
 
 pub returns-in-2 : goal.returns-in-2
 unfolding shape_of shapes
