@@ -1,5 +1,6 @@
-// What node a record is, to and from the numbers that it holds: a node's tag is a byte of the lent store. `sum`, and `leaves::lengths` above, ask a
-// record's tag too, and not its `Shape`: by `Shape` pages took 11 to 21 % longer, measured on an older toolchain (docs/DECISIONS.md, 74).
+// What node a record is, to and from the numbers that it holds: a node's tag is a byte of the lent store. An enum of the tags would be read from the
+// byte by one more match of 37 arms, as no cast makes a case of a number. `sum`, and `leaves::lengths` above, ask a record's tag too, and not its
+// `Shape`: by `Shape` pages took 11 to 21 % longer, measured on an older toolchain (docs/DECISIONS.md, 74).
 ghost use Rattle.std.specs.Prelude.{◌≡◌, ◌^◌, ◌<◌};
 ghost use Rattle.ast.specs.Shape.{numbers, leaf_fields, one_fields, two_fields, three_fields, fields, shape_of, role_of, is_matrix, fields_of, Placed};
 

@@ -3,12 +3,12 @@
 // A record is 24 bytes, numbers with the low byte first:
 //
 //     byte   0       the tag, which says what node it is
-//     byte   1       the attribute: a variant, an accent, a style, a thickness, an alignment or a kind
-//     bytes  2..4    the index of the first part, or of the first node of a row
+//     byte   1       the attribute: a variant, an accent, a style, a thickness or an alignment
+//     bytes  2..4    the index of the first part, or of the first node of a row or a matrix
 //     bytes  4..6    the index of the second part
 //     bytes  6..8    the index of the third part
-//     bytes  8..10   the index of the next node of the row that this node is in
-//     bytes 10..14   a code point, the number of a text or a width, a first place in the body, or the count of a row's nodes
+//     bytes  8..10   the index of the next node of the row or the matrix that this node is in
+//     bytes 10..14   a code point, the number of a text or a width, a first place in the body, or the count of a row's or a matrix's nodes
 //     bytes 14..18   the place after the last in the body, or the number of a second text
 //     bytes 18..20   unused
 //     bytes 20..24   kept free for a span
@@ -27,8 +27,8 @@ pub mod variant;
 use attribute::{Accent, ColumnAlign, DisplayStyle, LineThickness, Variant};
 use token::Undefined;
 
-// A record of the store, field by field as its bytes are: the four that say what node it is lie on both sides of the indices, and are `Fields`
-// by themselves.
+// A record of the store. `Fields` are four of its fields: held as one they would put `.fields` before each tag that is asked, and spare only the
+// conversion.
 #[derive(Clone, Copy)]
 pub struct Record {
     pub tag: u8,
@@ -48,8 +48,8 @@ pub enum Stretched {
     Fixed(u32),
 }
 
-// The nodes with no part. A number is a code point, the number of a fixed text or of a width; two are places in the body, as in a `Token`, and of a
-// `SizedParen` the numbers of its size and of its text.
+// The nodes with no part. A number is a code point, the number of a fixed text or of a width, since a record holds numbers; two are places in the
+// body, as in a `Token`, and of a `SizedParen` the numbers of its size and of its text.
 #[derive(Clone, Copy)]
 pub enum Leaf {
     Number(usize, usize),

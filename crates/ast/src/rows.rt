@@ -4,7 +4,8 @@ ghost use Rattle.ast.specs.Appended.{Appends};
 
 use crate::store::set_next;
 
-// Links the node at i behind the last of some nodes, and answers the first of them all.
+// Links the node at i behind the last of some nodes, and answers the first of them all. It stands by itself, without a `Linked`, since `push` asks
+// besides that the count can be raised.
 #[tactic(auto, using(crate::proofs::RowLaws::appends_first, crate::proofs::RowLaws::appends_next))]
 pub fn append(store: &mut [u8], first: usize, last: usize, count: usize, i: usize) -> usize
     requires { (last * 24 + 24 ≤ length store.old) × (i < 65536) }

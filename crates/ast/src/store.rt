@@ -6,7 +6,8 @@ ghost use Rattle.ast.specs.Change.{with_next, with_attr};
 use crate::Record;
 
 // The number in two bytes. In std no trait has `from_le_bytes` or `to_le_bytes`, and the crates use std alone: so two and four bytes are no
-// instances of one function, here and where they are put.
+// instances of one function. Where they are put, one over any number of bytes would say that a run of bytes is put, and the definitions of a record go
+// byte by byte.
 fn get_two(store: &[u8], o: usize) -> usize
     requires { o + 2 ≤ length store.now }
     ensures { (result ≡ two store.now o) × (result < 65536) }

@@ -1,5 +1,5 @@
 // The attributes of MathML elements: the Rust's attribute.rs, and `DisplayStyle` of its lib.rs. Each text is an arm of a match, as there: an array
-// of texts by number would say nowhere which text is whose.
+// of texts by number would say nowhere which text is whose. A text is lent as it stands, where a `Display` would write it anew.
 #![tactic(auto)]
 
 mod codes;

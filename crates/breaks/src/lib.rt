@@ -52,7 +52,8 @@ pub fn next_break(s: &[u8], from: usize) -> usize
     }
 }
 
-// The first place from a place on where no line end stands, or the length, since a break ends there too.
+// The first place from a place on where no line end stands, or the length, since a break ends there too. A line end has one byte or two, so the place goes
+// on by its width.
 pub fn break_end(s: &[u8], from: usize) -> usize
     requires { from ≤ length s.now }
     ensures { IsNext no_line_end s.now from result }

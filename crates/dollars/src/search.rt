@@ -1,6 +1,6 @@
 // The search for a byte, and for two alike, by words of eight bytes. It is given a text and a place in it, and not what stands behind the
-// place, so that each answer is a place of the whole text: `position` counts from where it begins, and its caller would add that again. The search
-// by words is written here, and proved against the definition, as is all of the translator; must-fail has wrong versions of it.
+// place, so that each answer is a place of the whole text: `position` counts from where it begins, and its caller would add that again. The crates
+// use std alone, so the search by words is written here, and proved against the definition; must-fail has wrong versions of it.
 ghost use Rattle.std.specs.Prelude.{◌≡◌, ◌≤◌, length, drop};
 ghost use Rattle.text.specs.Any.{contains};
 ghost use Rattle.text.specs.Put.{digits};
@@ -17,7 +17,8 @@ fn has_byte(w: u64, b: u8) -> bool
     (sum | other) & 0x8080_8080_8080_8080 != 0x8080_8080_8080_8080
 }
 
-// Past the words without a b, from a place on.
+// Past the words without a b, from a place on. `position` over the words would give the k of the same sum, and its closure would have a contract of its
+// own.
 fn past_words(s: &[u8], from: usize, b: u8) -> usize
     requires { from ≤ length s.now }
     ensures { (next_place (starts_with b) from (drop from s.now) ≡ next_place (starts_with b) result (drop result s.now)) × (from ≤ result) × (result ≤ length s.now) }

@@ -70,7 +70,8 @@ fn display_of(delimiter: Delimiter) -> DisplayStyle
     }
 }
 
-// Lays a text with the bodies between its marks translated; the marks are taken first with second, third with fourth. The same marks are gone
+// Lays a text with the bodies between its marks translated; the marks are taken first with second, third with fourth, and the search goes on behind the
+// second, so the place is moved by hand. The same marks are gone
 // through where the text is measured and where it is sure to fit, so `sure` is handed on to each body: a closure for the body would take the
 // store and the output at every turn.
 fn substitute(
@@ -113,7 +114,7 @@ fn write_pass(
     substitute(manner, s, delimiter, store, out, at, true).unwrap()
 }
 
-// Pass one, with `room` bytes for its text: it goes to a buffer if it fits there. A text without marks is looked through once.
+// Pass one, with `room` bytes for its text: it goes to a buffer if it fits there. A text without marks is looked through once for them.
 fn first_pass(
     manner: Manner,
     document: &[u8],
@@ -218,7 +219,7 @@ fn replace_in(
     finish(manner, &work[..n], store, out, draft)
 }
 
-// The replacement in a document, with N bytes for its drafts: fewer take less space to clear.
+// The replacement in a document, with N bytes for its drafts: fewer take less space to clear. There is no heap, so they are an array.
 fn replace_within<const N: usize>(
     manner: Manner,
     document: &[u8],

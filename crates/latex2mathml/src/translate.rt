@@ -58,7 +58,7 @@ pub(crate) fn read_nodes(manner: Manner, s: &[u8], store: &mut [u8]) -> Result<P
     Ok(nodes)
 }
 
-// Puts the opening tag of the wrapper, whose length stands in `wrapper_len`: lengths are apart from printing (docs/DECISIONS.md, 91).
+// Puts the opening tag of the wrapper, whose length stands in `wrapper_len`: one function for both would be asked at each piece which it is to do.
 fn put_opening(display: DisplayStyle, out: &mut Output)
     requires { Room out.old (length (opening display)) }
     ensures { Puts out.old out.new (opening display) }

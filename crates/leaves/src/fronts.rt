@@ -1,11 +1,12 @@
-// What is printed before the parts of a node and behind them.
+// What is printed before the parts of a node and behind them; no `Display`, and dialect and output apart, as in `leaf`.
 ghost use Rattle.std.specs.Prelude.{◌≡◌, length};
 ghost use Rattle.text.specs.Put.{Room, Puts};
+ghost use Rattle.markup.specs.Print.{align_text};
 ghost use Rattle.markup.specs.Fronts.{accent_text, front_one, back_one, front_two, back_two, front_three, back_three};
 
 use crate::leaf::{fixed_text, put_in};
 use ast::{One, Three, Two};
-use attribute::{Accent, DisplayStyle, LineThickness};
+use attribute::{Accent, ColumnAlign, DisplayStyle, LineThickness};
 use text::Dialect;
 use text::put::Output;
 use text::xml::put_character;
@@ -60,6 +61,19 @@ pub fn put_back_one(dialect: Dialect, k: One, out: &mut Output)
         ),
         One::Slashed => (),
         One::Style(_) => out.put(b"</mstyle>"),
+    }
+}
+
+// The alignment of a matrix, in the old dialect without quotes.
+pub fn align_text(dialect: Dialect, align: ColumnAlign) -> &'static [u8]
+    ensures { result.now ≡ align_text dialect align }
+{
+    match dialect {
+        Dialect::Old => align.attribute(),
+        Dialect::Strict => match align {
+            ColumnAlign::Center => b"",
+            ColumnAlign::Left => b" columnalign=\"left\"",
+        },
     }
 }
 

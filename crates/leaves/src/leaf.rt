@@ -1,5 +1,6 @@
-// The printer: `Display` of the Rust's `Node`. The dialect is read and the output is written to, so the two are no struct (docs/DECISIONS.md,
-// 95).
+// The leaves, of the Rust's `Display` for `Node`. It is no `Display`: that has no parameter for the dialect and the body, `write_str` wants a `&str`
+// where a name is bytes, and what is written is promised only where the answer is Ok. The dialect is read and the output is written, so the two are no
+// struct, as in `text::xml`.
 ghost use Rattle.std.specs.Prelude.{◌≡◌, ◌++◌, length};
 ghost use Rattle.text.specs.Text.{bytes};
 ghost use Rattle.text.specs.Put.{Room, Puts};
@@ -29,7 +30,7 @@ pub(crate) fn fixed_text(dialect: Dialect, t: u32) -> &'static [u8]
 }
 
 // Puts a text between two pieces. Here and in the two below what stands between differs in kind: bytes, a character, and letters that are
-// read again.
+// read again; the contract of a closure for it would be longer than the two lines that it spares.
 pub(crate) fn put_in(front: &[u8], text: &[u8], back: &[u8], out: &mut Output)
     requires { Room out.old (length (front.now ++ text.now ++ back.now)) }
     ensures { Puts out.old out.new (front.now ++ text.now ++ back.now) }
@@ -192,7 +193,7 @@ fn put_new_line(dialect: Dialect, place: Place, out: &mut Output)
     }
 }
 
-// Puts the error text of a token that is no node, piece by piece: `fmt` promises nothing of the bytes that it writes.
+// Puts the error text of a token that is no node.
 fn put_undefined(dialect: Dialect, s: &[u8], u: Undefined, out: &mut Output)
     requires { Inside (length s.now) u × Room out.old (length (undefined_markup dialect s.now u)) }
     ensures { Puts out.old out.new (undefined_markup dialect s.now u) }

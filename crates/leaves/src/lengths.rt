@@ -1,15 +1,16 @@
-// The lengths of what is printed, by the numbers of a record: one match gives constants and nothing is put. By a `Shape` pages took 11 to 21 %
-// longer, measured on an older toolchain (docs/DECISIONS.md, 74). Of the places only that under a slash changes a length here, so `slashed` stands for `Place`: what a mark
-// of a matrix prints in a cell is counted by `print::measure`.
+// The lengths of what is printed, by the numbers of a record: one match gives constants and the lengths of texts, and nothing is put. By a `Shape`
+// pages took 11 to 21 % longer, measured on an older toolchain (docs/DECISIONS.md, 74). Of the places only that under a slash changes a length here, so
+// `slashed` stands for `Place`: what a mark of a matrix prints in a cell is counted by `print::measure`.
 ghost use Rattle.std.specs.Prelude.{◌≡◌, ◌≤◌, length};
 ghost use Rattle.token.specs.Debug.{Inside};
 ghost use Rattle.ast.specs.declared.Leaf.{Leaf};
 ghost use Rattle.ast.specs.Tree.{leaf};
 ghost use Rattle.ast.specs.Shape.{shape_of};
 ghost use Rattle.ast.specs.Inside.{ShapeInside};
-ghost use Rattle.markup.specs.Print.{operator_text, variant_text, letter_markup, operator_markup, undefined_markup, align_text, display_text, at_place};
+ghost use Rattle.markup.specs.Print.{operator_text, variant_text, letter_markup, operator_markup, undefined_markup, display_text, at_place};
 ghost use Rattle.markup.specs.Own.{under, own_text, own_errors};
 
+use crate::fronts::align_text;
 use crate::leaf::{fixed_text, sized_end};
 use ast::Fields;
 use attribute::{Accent, ColumnAlign, DisplayStyle, LineThickness, Variant};
@@ -20,27 +21,14 @@ use token::debug::debug_len;
 use token::texts::width_of;
 use token::{Undefined, operator_in};
 
-// .. of a variant's attribute.
+// The length of a variant's attribute.
 fn variant_len(v: Variant) -> usize
     ensures { result ≡ length (variant_text v) }
 {
     15 + v.name().len()
 }
 
-// .. of a matrix's alignment, as constants, like those of the tags below: one match on the record's numbers gives them, and no text is looked up.
-fn align_len(dialect: Dialect, align: ColumnAlign) -> usize
-    ensures { result ≡ length (align_text dialect align) }
-{
-    match align {
-        ColumnAlign::Center => 0,
-        ColumnAlign::Left => match dialect {
-            Dialect::Old => 17,
-            Dialect::Strict => 19,
-        },
-    }
-}
-
-// .. of whether a style is that of a block, as constants too: the tag that has it is one text.
+// The length of whether a style is that of a block, as constants: the tag that has it is one text.
 fn display_len(d: DisplayStyle) -> usize
     ensures { result ≡ length (display_text d) }
 {
@@ -50,14 +38,14 @@ fn display_len(d: DisplayStyle) -> usize
     }
 }
 
-// .. of the character of an operator.
+// The length of the character of an operator.
 fn operator_text_len(dialect: Dialect, c: u32) -> usize
     ensures { result ≡ length (operator_text dialect c) }
 {
     character_len(dialect, operator_in(dialect, c))
 }
 
-// .. of a letter, which under a slash has its variant in any case.
+// The length of a letter, which under a slash has its variant in any case.
 fn letter_len(dialect: Dialect, slashed: bool, c: u32, v: Variant) -> usize
     ensures { result ≡ length (at_place dialect (under slashed) (leaf (Leaf.Letter c v)) (letter_markup dialect c v)) }
 {
@@ -70,7 +58,7 @@ fn letter_len(dialect: Dialect, slashed: bool, c: u32, v: Variant) -> usize
     9 + variant_len(v) + character_len(dialect, c)
 }
 
-// .. of an operator, of which the partial differential is italic where it has no slash.
+// The length of an operator, of which the partial differential is italic where it has no slash.
 fn operator_len(dialect: Dialect, slashed: bool, c: u32) -> usize
     ensures { result ≡ length (at_place dialect (under slashed) (leaf (Leaf.Operator c)) (operator_markup dialect c)) }
 {
@@ -83,7 +71,7 @@ fn operator_len(dialect: Dialect, slashed: bool, c: u32) -> usize
     9 + operator_text_len(dialect, c)
 }
 
-// .. of the error text of a token that is no node.
+// The length of the error text of a token that is no node.
 fn undefined_len(dialect: Dialect, s: &[u8], u: Undefined) -> usize
     requires { Inside (length s.now) u × (length s.now ≤ 4096) }
     ensures { result ≡ length (undefined_markup dialect s.now u) }
@@ -141,7 +129,7 @@ pub fn own_len(dialect: Dialect, slashed: bool, s: &[u8], f: Fields) -> usize
         33 => 19,
         34 => 25,
         35 => 13,
-        _ => 39 + align_len(dialect, ColumnAlign::from(attr)),
+        _ => 39 + align_text(dialect, ColumnAlign::from(attr)).len(),
     }
 }
 
@@ -149,8 +137,5 @@ pub fn own_len(dialect: Dialect, slashed: bool, s: &[u8], f: Fields) -> usize
 pub fn own_errors(f: Fields) -> usize
     ensures { result ≡ own_errors (shape_of f) }
 {
-    match f.tag {
-        11..=19 => 1,
-        _ => 0,
-    }
+    usize::from(matches!(f.tag, 11..=19))
 }

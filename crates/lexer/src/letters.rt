@@ -53,7 +53,7 @@ pub fn letter_at(t: &[u8], i: usize) -> Option<Letter>
     }
 }
 
-// Puts the characters of the letters at the head of a text, in a dialect.
+// Puts the characters of the letters at the head of a text, in a dialect, which is a parameter of its own, as in `text::xml`.
 pub fn put_letters(dialect: Dialect, t: &[u8], out: &mut Output)
     requires { Room out.old (length (in_text dialect (encode_all (letters t.now)))) }
     ensures { Puts out.old out.new (in_text dialect (encode_all (letters t.now))) }

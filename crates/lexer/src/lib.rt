@@ -19,8 +19,8 @@ pub struct Lexeme {
     pub end: usize,
 }
 
-// A place in the body, without the bytes: the cursor over bytes that document 01 has below the `Lexer` over the caller's slice. It holds no slice
-// whose length could bound the place, so its functions ask for that.
+// A place in the body, without the bytes. The rules of the project want such a cursor below the `Lexer` over the caller's slice (docs/DECISIONS.md,
+// 58), so it holds no slice, no ghost field can bound its place, and its functions ask for that.
 #[derive(Clone, Copy)]
 struct Cursor {
     at: usize,
@@ -33,7 +33,7 @@ fn is_whitespace(b: u8) -> bool
     matches!(b, b' ' | b'\t' | b'\n' | b'\r')
 }
 
-// A function for the call of std here and in the next: the promise is the definition's name, and `skip` takes a function.
+// The test of std promises in its own words: here and in the next function the promise is the definition's name.
 fn is_digit(b: u8) -> bool
     ensures { result ≡ is_digit b }
 {
@@ -147,7 +147,8 @@ impl Cursor {
         s[self.at..].starts_with(b":=")
     }
 
-    // The token at the cursor: one decision over the character there.
+    // The token at the cursor: one decision over the character there. A parenthesis is the number of its fixed text, since a record of the tree holds
+    // numbers.
     fn token_at(self, s: &[u8]) -> Lexeme
         requires { self.at ≤ length s.now }
         ensures { result ≡ token_at self.at (drop self.at s.now) }

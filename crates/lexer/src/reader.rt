@@ -1,4 +1,4 @@
-// The Rust's `Lexer`: a place in the caller's bytes, which it borrows. Its functions leave the work to the cursor.
+// The Rust's `Lexer`: a place in the caller's bytes, which it borrows. It leaves the work to the cursor.
 // That the place is inside is asked by `next_token` and is no ghost field: a reader is made in `token_from` alone, which asks for it too, and is read
 // there at once, so a field would say it a third time.
 ghost use Rattle.std.specs.Prelude.{◌≡◌, ◌≤◌, length, drop};
@@ -22,7 +22,7 @@ impl<'a> Lexer<'a> {
     }
 }
 
-// The token of a text from a place on: with plain parameters.
+// The token of a text from a place on, for callers that keep text and place apart.
 pub fn token_from(input: &[u8], at: usize) -> Lexeme
     requires { at ≤ length input.now }
     ensures { (result ≡ next_token at (drop at input.now)) × (result.end ≤ length input.now) }

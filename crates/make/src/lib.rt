@@ -22,7 +22,7 @@ use error::Refusal;
 use parser::marks::{fence_of, paren_of, script_kind, script_of};
 use parser::{Environment, Limits, Pair, ParsedNode, Parser, Side};
 
-// Puts a node of which the numbers are f, with its parts, at an index.
+// Puts a node of which the numbers are f, with its parts, at an index. A part that it does not have is 0, since a record has three indices in any case.
 fn put_node(store: &mut [u8], i: usize, f: Fields, a: usize, b: usize, c: usize)
     requires { (i * 24 + 24 ≤ length store.old) × (a < 65536) × (b < 65536) × (c < 65536) }
     ensures { Put store.old store.new i (node_record f a b c) }
@@ -123,7 +123,7 @@ fn make_sub_sup(
     }
 }
 
-// .. unless a mark is next, which repeats one of the two.
+// The same, refused where a mark is next, which repeats one of the two.
 pub fn make_scripts(
     store: &mut [u8],
     p: Parser,
@@ -380,7 +380,7 @@ pub fn make_row(store: &mut [u8], p: Parser, nodes: Linked) -> Result<ParsedNode
     done(p, 1)
 }
 
-// A matrix of an environment, and the fences around it.
+// A matrix of an environment, and the fences around it. Its nodes are no `Linked`: what is read back from a row's record has no last.
 fn make_matrix(
     store: &mut [u8],
     p: Parser,

@@ -1,5 +1,6 @@
 // The page operation: each paragraph of a document is replaced, or stands as typed where the replacement refuses it.
 // What is lent is handed on one by one, since store and work are lent anew for each paragraph, and drafting and writing differ in the buffers beside them.
+// The document's length is tested in `page` alone: a struct around it that keeps the bound would be made for the four calls below it, so each says it.
 #![tactic(auto)]
 
 mod draft;

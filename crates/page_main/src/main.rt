@@ -1,4 +1,5 @@
-// The page program: standard input is a document, and standard output its page in the old dialect, or a line with the number of the refusal.
+// The page program: standard input is a document, and standard output its page in the old dialect, or a line with the number of the refusal. There is no
+// heap, so its buffers are arrays.
 #![tactic(auto)]
 
 ghost use Rattle.std.specs.Prelude.{◌≡◌, ◌≤◌, ◌<◌, length, take};
@@ -56,8 +57,8 @@ fn answer(document: &[u8], out: &mut [u8; 65536]) -> usize
     }
 }
 
-// The same for the n bytes that were read, with a place more for them than a document may have bytes. It stands beside `main`, whose contract can't name what is written.
-// The array and n are two parameters, as the promise names the length of the whole array.
+// The same for the n bytes that were read, with a place more for them than a document may have bytes. It stands beside `main`, whose contract can't name
+// what is written. The array and n are two parameters, as the promise names the length of the whole array.
 fn respond(input: &[u8; 32769], n: usize, out: &mut [u8; 65536]) -> usize
     requires { n ≤ length input.now }
     ensures { (length input.now ≡ read_limit) × Answers (take n input.now) result out.new }

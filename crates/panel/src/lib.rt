@@ -1,6 +1,7 @@
 // The operations as the panel's host program calls them: numbers and byte slices, and the number of a refusal, or 0, as the answer.
-// The crate panel_c exports them.
-// The three names of document 01 are of the old dialect. Those that end in `_in` take a yes or no for the strict one.
+// The crate panel_c exports them: a crate that exports is a static library, which no crate can use, so the promises here, and the theorem about runs of them,
+// have a crate of their own.
+// The three names without an ending are of the old dialect. Those that end in `_in` take a yes or no for the strict one.
 #![tactic(auto)]
 
 ghost use Rattle.std.specs.Prelude.{◌≡◌, length};
@@ -131,7 +132,8 @@ pub fn latex_replace(
     latex_replace_in(document, false, store, work, output, size)
 }
 
-// The page operation in a dialect; the counts tell the host how many paragraphs there are and how many were left as typed.
+// The page operation in a dialect; the counts tell the host how many paragraphs there are and how many were left as typed. They are written with the size,
+// by one match: with `in_numbers` for the size the answer would be taken apart twice.
 pub fn latex_page_in(
     document: &[u8],
     strict: bool,

@@ -400,7 +400,8 @@ fn parse_begin(s: &[u8], store: &mut [u8], p: Parser, depth: usize) -> Result<Pa
     make_environment(store, last.after, env, content.node)
 }
 
-// The nodes up to a token, as one node. The loop is a `while`, since the end is a token that is found by reading: there is nothing to count.
+// The nodes up to a token, as one node. The loop is a `while`, since the end is a token that is found by reading: there is nothing to count. It is not one
+// with that of a whole body, which is outside the cycle, ends where this one refuses, and makes no node.
 #[cycle(parser)]
 fn parse_group(
     s: &[u8],

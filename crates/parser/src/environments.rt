@@ -7,7 +7,7 @@ use crate::Environment;
 use attribute::ColumnAlign;
 use lexer::letters::letter_at;
 
-// Whether the letters at the head of a text spell a name.
+// Whether the letters at the head of a text spell a name. A letter has no fixed width, so the place goes from the end of one to the next.
 fn spells(t: &[u8], name: &[u8]) -> bool
     ensures { result ≡ same (letters t.now) name.now }
 {

@@ -62,7 +62,7 @@ pub enum Limits {
     Integral(u32),
 }
 
-// A matrix with its alignment, alone or between two fixed texts.
+// A matrix with its alignment, alone or between two fixed texts, by their numbers, as a record holds numbers.
 #[derive(Clone, Copy)]
 pub enum Environment {
     Bare(ColumnAlign),

@@ -68,8 +68,8 @@ pub fn paren_of(t: Token) -> Option<u32>
     }
 }
 
-// The text of a fence: a parenthesis, or none for a period, by text 0, which is the empty text. It is a number, since a record holds the number of its
-// text, and its printer asks for no other case.
+// The number of a fence's text: a parenthesis's, or for a period 0, the empty text. A record holds the number of its text, and its printer knows no other
+// case.
 #[tactic(auto, using(crate::proofs::MarkLaws::fence_as))]
 pub fn fence_of(t: Token) -> Option<u32>
     ensures { result ≡ fence_of t }
@@ -142,7 +142,8 @@ pub fn leaf_of(t: Token) -> Leaf
     }
 }
 
-// Whether a token is a leaf by itself, and not an undefined one: the definition asks it beside the leaf, and its callers do not need the leaf.
+// Whether a token is a leaf by itself, and not an undefined one. It stands beside `leaf_of`, as in the definition: the test is wanted first, and the leaf
+// only where the answer is yes.
 #[tactic(auto, unfolding(crate::specs::Marks::leaf_of, crate::specs::Marks::is_defined))]
 fn is_plain(t: Token) -> bool
     ensures { result ≡ is_defined (leaf_of t) }

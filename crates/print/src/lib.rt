@@ -1,4 +1,5 @@
-// The printer: a tree of the store is printed by recursion over its records; what it prints was measured before.
+// The printer: a tree of the store is printed by recursion over its records; what it prints was measured before. It is no `Display`, as `leaves::leaf`
+// says.
 #![tactic(auto)]
 
 pub mod measure;
@@ -13,32 +14,21 @@ ghost use Rattle.print.specs.Shown.{place_of, shown, shown_all, TreeAt, TwoAt, T
 use ast::store::{get_next, get_record};
 use ast::{One, Shape, Three, Two};
 use attribute::ColumnAlign;
-use leaves::fronts::{back_three, back_two, front_three, front_two, put_back_one, put_front_one};
+use leaves::fronts::{
+    align_text, back_three, back_two, front_three, front_two, put_back_one, put_front_one,
+};
 use leaves::leaf::put_leaf;
 use markup::Place;
 use text::Dialect;
 use text::put::Output;
 
-// Where the part of a node with one part is printed. Neither type is of this crate, so it is no `From`.
+// Where the part of a node with one part is printed. It says where, and turns no value into another, so it is no `From`.
 fn place_of(k: One) -> Place
     ensures { result ≡ place_of k }
 {
     match k {
         One::Slashed => Place::Slashed,
         _ => Place::Plain,
-    }
-}
-
-// The alignment of a matrix, in the old dialect without quotes.
-fn align_text(dialect: Dialect, align: ColumnAlign) -> &'static [u8]
-    ensures { result.now ≡ align_text dialect align }
-{
-    match dialect {
-        Dialect::Old => align.attribute(),
-        Dialect::Strict => match align {
-            ColumnAlign::Center => b"",
-            ColumnAlign::Left => b" columnalign=\"left\"",
-        },
     }
 }
 

@@ -16,7 +16,8 @@ pub struct Measured {
     pub errors: usize,
 }
 
-// What some records add, and the marks of the matrices among them.
+// What some records add, and the marks of the matrices among them. The fields are those of `Measured` and of `Marks`, side by side, as each is added by
+// itself and one promise speaks of all four.
 #[derive(Clone, Copy, Default)]
 struct Sums {
     length: usize,

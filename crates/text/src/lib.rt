@@ -23,7 +23,7 @@ pub struct CodePoint {
     pub width: usize,
 }
 
-// How many bytes follow, and the range of the next one.
+// How many bytes follow, and the range of the next one. Where none follows the range means nothing: in an `Option` it would be taken apart at each byte.
 #[derive(Clone, Copy)]
 struct Follow {
     left: u8,
@@ -92,8 +92,8 @@ fn is_ascii(s: &[u8]) -> bool
     !any(s, |b| 0x7f < b)
 }
 
-// Whether the bytes are well-formed UTF-8, in one pass; ASCII is. It goes by `first_byte`, the table by which the lexer reads: core's `from_utf8`
-// promises a definition of its own, which would have to be proved to be that of this table.
+// Whether the bytes are well-formed UTF-8; ASCII is. It goes by `first_byte`, the table by which the lexer reads: core's `from_utf8` promises a definition
+// of its own, which would have to be proved to be that of this table, and the table would stay for `code_point`, so only this loop would go.
 pub fn well_formed(s: &[u8]) -> bool
     ensures { result ≡ well_formed s.now }
 {
@@ -151,8 +151,9 @@ fn replacement() -> CodePoint
     }
 }
 
-// The code point whose first byte gave `bits` and whose other bytes, as `next` says, are to begin `rest`. The bytes are asked for by their places:
-// an iterator over them would end where one is missing, and here that is an answer, the same as for a byte out of its range.
+// The code point whose first byte gave `bits` and whose other bytes, as `next` says, are to begin `rest`. It counts them and asks for each: an iterator
+// over them would need a test before it that none is missing, whose answer is that for a byte out of its range once more. And `Follow::step` would ask
+// at each byte whether one follows, which the count says.
 fn tail(rest: &[u8], next: Follow, bits: u32) -> CodePoint
     requires { (next.left ≤ 3) × ((next.left ≡ 0 → ⊥) → 128 ≤ next.low) × (bits < 256) }
     ensures { result ≡ read (suc next.left) bits (pending next.left next.low next.high) rest.now }

@@ -29,7 +29,8 @@ pub fn reference(dialect: Dialect, c: u32) -> Option<&'static [u8]>
     }
 }
 
-// Puts a character of a formula's text.
+// Puts a character of a formula's text. The dialect is read and the output is written: in one struct each contract would have to say that the dialect
+// stays as it is.
 pub fn put_character(dialect: Dialect, c: u32, out: &mut Output)
     requires { Room out.old (length (in_text dialect (encode c))) }
     ensures { Puts out.old out.new (in_text dialect (encode c)) }

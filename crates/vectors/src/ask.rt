@@ -6,7 +6,7 @@ use latex2mathml::replace::replace;
 use latex2mathml::translate::latex_to_mathml;
 use page::{Totals, page};
 
-// What a refusal says: its number, and no lengths.
+// What a refusal says: its number, and no lengths. One conversion over both answers below would want one of a length and one of the totals beside it.
 impl From<Refusal> for Numbers {
     fn from(r: Refusal) -> Numbers {
         Numbers {

@@ -15,7 +15,7 @@ pub enum Question {
 }
 
 impl Question {
-    // Its letter in the list.
+    // Its letter in the list. It is no `From`, which would not say that the letter is the list's.
     pub fn letter(self) -> char {
         match self {
             Question::Body(DisplayStyle::Block) => 'B',

@@ -54,7 +54,8 @@ fn put_wanted(case: Case, question: Question, line: &mut &[u8], wanted: &mut Fil
 
 // Compares the answer to a question. Behind what is written 64 bytes are looked at, which stay the byte 85 that the buffers begin with.
 // The text behind a document's output is what the work buffer is to begin with; what a page's holds afterwards is free.
-// Case, question and text are no struct: a case may ask two questions, and the text stands in a buffer of its own.
+// Case, question and text are no struct: a case may ask two questions, and the text stands in a buffer of its own. There is no heap, so the buffers are
+// arrays, here and in `main`.
 pub fn compare(case: Case, question: Question, text: &[u8], mut line: &[u8]) -> Verdict {
     let mut store = [0u8; 196608];
     let mut work = [85u8; 65536];

@@ -68,8 +68,8 @@ impl Tally {
     }
 }
 
-// Tells an answer that differs by the number of its line, the letter of what was asked and the number that came; what cannot be written is still
-// counted.
+// Tells an answer that differs by the number of its line, the letter of what was asked, or a question mark, and the number that came; what cannot be
+// written is still counted.
 fn tell(rt: &impl Print, line: u64, asked: Option<Question>, number: usize) {
     let kind = match asked {
         Some(question) => question.letter(),

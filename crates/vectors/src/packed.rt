@@ -1,5 +1,6 @@
 // A stored line: numbers in decimal, and texts that end with a tab or with the line, in which a backquote begins what is shortened or is no plain character.
-// What is read of a line is taken off its front.
+// What is read of a line is taken off its front. That a line gets no longer, and that the end of a buffer's text moves on, compares what was with what is,
+// which no invariant of a type says, so each contract says it.
 ghost use Rattle.std.specs.Prelude.{◌≤◌, ◌<◌, length, IfSome};
 
 use attribute::DisplayStyle;
@@ -16,7 +17,7 @@ fn digit(b: u8) -> Option<usize>
 }
 
 // Takes a number in decimal, up to the first byte that is no digit. Where none stands there it is 0, which the list leaves out; a letter that takes
-// no number has none behind it.
+// no number has none behind it. `parse` wants a text that ends with the number.
 pub fn decimal(line: &mut &[u8]) -> usize
     ensures { (length line.new.now ≤ length line.old.now) × (result < 1000000) }
 {

@@ -130,7 +130,7 @@ overflow_add-result-in-25 c =
 
 pub overflow_add-result-in_default : goal.overflow_add-result-in_default
 overflow_add-result-in_default c =
-    let e0 = c.align_len.ensures in
+    let e0 = ap length c.align_text.ensures in
     let k0 = align_short c.args.dialect c.from-in_default.result in
     omega arith
 
@@ -307,4 +307,4 @@ returns-in-35 c = tagged c.args.dialect c.args.slashed c.args.s.now c.args.f 35 
 
 pub returns-in_default : goal.returns-in_default
 returns-in_default c =
-    tagged_last c.args.dialect c.args.slashed c.args.s.now c.args.f (past 36 c.args.f.tag c.in_default.in_default-own.rest) (rw (c.align_len.ensures, c.from-in_default.ensures) (sym (own_matrix c.args.dialect c.args.slashed c.args.s.now (align_of c.args.f.attr) c.args.f.x)))
+    tagged_last c.args.dialect c.args.slashed c.args.s.now c.args.f (past 36 c.args.f.tag c.in_default.in_default-own.rest) (rw (c.align_text.ensures, c.from-in_default.ensures) (sym (own_matrix c.args.dialect c.args.slashed c.args.s.now (align_of c.args.f.attr) c.args.f.x)))

@@ -1,7 +1,7 @@
--- `print::align_text` meets its contract.
+-- `leaves::fronts::align_text` meets its contract.
 use Rattle.text.specs.Examples.{text_opens}
 use Rattle.markup.specs.Print.{align_text}
-use Rattle.print.proofs.align_text.Goals as goal
+use Rattle.leaves.proofs.fronts.align_text.Goals as goal
 
 pub returns-in-Old : goal.returns-in-Old
 unfolding align_text
