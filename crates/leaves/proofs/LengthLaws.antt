@@ -37,12 +37,6 @@ use Rattle.markup.specs.Fronts.{accent_text, style_front, front_one, back_one, f
 use Rattle.markup.specs.Own.{under, own_text, own_errors}
 use Rattle.markup.proofs.PrintLaws.{italic_letter, other_letter, error_ampersand, error_new_line, undefined_pieces}
 
--- a matrix that is centred has no attribute in either dialect
-pub center_long : (d : Dialect) → 0 ≡ length (align_text d ColumnAlign.Center)
-unfolding text_opens column_align align_text
-center_long Dialect.Old = refl
-center_long Dialect.Strict = refl
-
 -- ---- a letter and an operator, plain and under a slash
 pub letter_under : (d : Dialect) (c : ℕ) (v : Variant) → length (at_place d Place.Slashed (leaf (Leaf.Letter c v)) (letter_markup d c v)) ≡ 17 + length (variant_text v) + length (character d c)
 unfolding text_opens at_place slash slash_leaf

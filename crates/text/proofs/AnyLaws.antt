@@ -5,6 +5,7 @@ use mathlib.Core.Bool.{Bool, true, false, ◌||◌, or-true, or-false}
 use mathlib.Core.List.{List, [], ◌∷◌, ◌++◌}
 use Prim.Native.Nat.{ℕ, ◌+◌, ◌≤◌, ◌<◌}
 use lib.ListN.{length, drop, get_or, drop_of_length-le}
+use Rattle.std.specs.List.{list_any}
 use Rattle.text.specs.Any.{any}
 use Rattle.text.proofs.Cases.{neither}
 use Rattle.text.proofs.FollowLaws.{byte_at}
@@ -35,3 +36,9 @@ module _ (test : ℕ → Bool) where
       let h = none_cons b (l ++ m) e in
       let k = none_sides l m h.1 in
       (rw h.0 k.0, k.1)
+
+-- the test of std over a list is the definition's
+pub any_list : (test : ℕ → Bool) (l : List ℕ) → list_any test l ≡ any test l
+unfolding any
+any_list test [] = refl
+any_list test (b ∷ l) = rw (any_list test l) refl

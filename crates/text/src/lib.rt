@@ -117,7 +117,7 @@ pub fn well_formed(s: &[u8]) -> bool
 pub fn contains(s: &[u8], b: u8) -> bool
     ensures { result ≡ contains b s.now }
 {
-    any(s, |c| c == b)
+    s.contains(&b)
 }
 
 // Whether a byte is NUL.

@@ -9,8 +9,7 @@ use lib.Seq.{drop-cons}
 use native.Mathlib.Numerals.{add-one}
 use Rattle.std.specs.Borrow.{Bor}
 use native.Mathlib.Omega.{arith}
-use lib.Dec.{leb}
-use borrow.Author.Tests.{le-ltb, leb-true, ne_eqb}
+use borrow.Author.Tests.{le-ltb, ne_eqb}
 use types.Run.{OneOf}
 use Rattle.text.specs.declared.Dialect.{Dialect}
 use Rattle.text.specs.Utf8.{encode}
@@ -89,16 +88,6 @@ unmarked b h other =
     let none = outside markup b (((tt, λ e. other (inr (inr e))), λ e. other (inr (inl e))), λ e. other (inl e)) in
     let q = each (λ i. unless i (xml_text (twice i))) (λ i. unless i (twice i)) 256 all_unmarked b h in
     rw (none, unless) at q
-
--- no byte is longer than seven, in either dialect: one test of all bytes each
-all_short : (tab (λ b. leb (length (twice b)) 7) 256 ≡ tab (λ b. true) 256) × (tab (λ b. leb (length (xml_text (twice b))) 7) 256 ≡ tab (λ b. true) 256)
-unfolding text_opens xml_text xml_escape digit hexadecimal escape escapes escape_by control
-all_short = (refl, refl)
-
-pub short_byte : (d : Dialect) (b : ℕ) → b < 256 → length (in_text d (twice b)) ≤ 7
-unfolding in_text
-short_byte Dialect.Old b h = leb-true _ 7 (each (λ i. leb (length (twice i)) 7) (λ i. true) 256 all_short.0 b h)
-short_byte Dialect.Strict b h = leb-true _ 7 (each (λ i. leb (length (xml_text (twice i))) 7) (λ i. true) 256 all_short.1 b h)
 
 -- a byte escaped twice, and the first of a part
 pub twice_cons : (b : ℕ) (l : List ℕ) → escape (escape (b ∷ l)) ≡ escape (escape_by escapes b) ++ escape (escape l)

@@ -1,11 +1,8 @@
 pub mod Agree
-pub mod CompareLaws
 pub mod DebugLaws
 pub mod FitLaws
 pub mod OldLaws
-pub mod Ordered
-pub mod Packed
 pub mod PlainLaws
-pub mod RowLaws
+pub mod SearchLaws
 pub mod Spelled
 pub mod TextsLaws

@@ -5,6 +5,5 @@ pub mod Command
 pub mod Roles
 pub mod Debug
 pub mod Table
-pub mod Code
 pub mod Key
 pub mod Examples

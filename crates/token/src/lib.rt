@@ -7,14 +7,13 @@ pub mod debug;
 pub mod table;
 pub mod texts;
 
-ghost use Rattle.std.specs.Prelude.{◌≡◌, ℕ, ◌+◌, ◌*◌, ◌^◌, ◌<◌, ◌≤◌, length, drop, slice_index};
-ghost use Rattle.text.specs.Text.{part};
+ghost use Rattle.std.specs.Prelude.{◌≡◌};
 ghost use Rattle.token.specs.Command.{from_command, operator_in, acts_on_a_digit};
-ghost use Rattle.token.specs.Key.{word_of, words, key, rows, cmp, Row, Has, Place};
+ghost use Rattle.token.specs.Key.{cmp};
 
 use attribute::{Accent, DisplayStyle, Variant};
 use std::cmp::Ordering;
-use table::{LENGTH, MARK, token_of, word_at};
+use table::table;
 use text::Dialect;
 
 // The Rust's `Token`, but for `Illegal`, which no lexer makes.
@@ -100,112 +99,18 @@ impl Token {
     }
 }
 
-// The byte k of a name, and 0 past its end, as its word has it.
-fn byte_of(name: &[u8], k: usize) -> u32
-    ensures { (result ≡ slice_index name.now k) × (result < 256) }
-{
-    match name.get(k) {
-        Some(&b) => u32::from(b),
-        None => 0,
-    }
-}
-
-// The four bytes of a name from a place on as a number, with zeros past its end. It goes byte by byte, since a name may end before the fourth, and
-// `from_be_bytes` wants all four.
-fn pack(name: &[u8], from: usize) -> u32
-    requires { from ≤ length name.now }
-    ensures { result ≡ word_of (drop from name.now) }
-{
-    let mut word: u32 = 0;
-    for k in 0..4 {
-        word = word * 256 + byte_of(name, from + k);
-    }
-    word
-}
-
-// The word k of a name. Each step of the search asks for the first, so it is packed once.
-fn word(first: u32, name: &[u8], k: usize) -> u32
-    requires { (4 * k ≤ length name.now) × (first ≡ word_of name.now) }
-    ensures { result ≡ word_of (drop (4 * k) name.now) }
-{
-    if k == 0 { first } else { pack(name, 4 * k) }
-}
-
-// How the name of the row that begins at a place compares with a name. A name ends where its code stands.
-fn compare(at: usize, first: u32, name: &[u8]) -> Ordering
-    requires { ((i : ℕ) × Row at i) × (first ≡ word_of name.now) }
-    ensures { (i : ℕ) → Row at i → result ≡ cmp (key i) (words name.now) }
-{
-    let n = name.len().div_ceil(4);
-    for k in 0..n {
-        let x = word_at(at + k);
-        if MARK <= x {
-            return Ordering::Less;
-        }
-        let y = word(first, name, k);
-        match x.cmp(&y) {
-            Ordering::Equal => {}
-            unequal => return unequal,
-        }
-    }
-    if MARK <= word_at(at + n) {
-        Ordering::Equal
-    } else {
-        Ordering::Greater
-    }
-}
-
-// Where the row begins that has the word at p: behind the code before it. The words are read one by one by `word_at`, which alone names the table,
-// so there is no slice to go through from behind.
-fn row_of(p: usize) -> usize
-    requires { p < length rows }
-    ensures { (i : ℕ) × Has p result i }
-{
-    for at in (0..p).rev() {
-        if MARK <= word_at(at) {
-            return at + 1;
-        }
-    }
-    0
-}
-
-// Where the row of a name begins, found by halves, or that no row has it. Rows differ in length, so the middle word is rarely the first of its row,
-// and `binary_search_by`, which goes by entries of one length, does not fit.
-fn search(name: &[u8]) -> Option<usize>
-    ensures { Place (words name.now) result }
-{
-    let first = pack(name, 0);
-    let mut lo: usize = 0;
-    let mut hi: usize = LENGTH;
-    while lo < hi {
-        let mid = lo + (hi - lo) / 2;
-        let at = row_of(mid);
-        match compare(at, first, name) {
-            Ordering::Less => {
-                lo = mid + 1;
-            }
-            Ordering::Equal => {
-                return Some(at);
-            }
-            Ordering::Greater => {
-                hi = at;
-            }
-        }
-    }
-    None
-}
-
-// The token of the command with a name, or the one given for a name that is unknown, as its definition takes one: the table has no name that is
-// empty or ends in a zero, and its words determine any other.
+// The token of the command with a name, or the one given for a name that is unknown, as its definition takes one.
 pub fn from_command(name: &[u8], unknown: Token) -> Token
     ensures { result ≡ from_command name.now unknown }
 {
-    let Some(1..) = name.last() else {
-        return unknown;
-    };
-    match search(name) {
-        Some(at) => token_of(word_at(at + name.len().div_ceil(4))),
-        None => unknown,
+    let rows = table();
+    match rows.binary_search_by(
+        |row| -> Ordering
+            ensures { result ≡ cmp row.now.0.now name.entry.now }
+        { row.0.as_bytes().cmp(name) },
+    ) {
+        Ok(i) => rows[i].1,
+        Err(_) => unknown,
     }
 }
 
