@@ -14,8 +14,9 @@
 //     bytes 20..24   kept free for a span
 //
 // The store is memory that C lends and there is no heap, so a record names others by their indices. Each caller lends the store on, so each
-// contract says how long it is. An index is a usize, as a place in the store is reckoned from it, and a contract says where it must fit into its two
-// bytes: as a u16 it would be widened at each use, and what narrows the number of the records made would owe the same bound.
+// contract says how long it is: a struct around it would be lent on just so, and be named in each contract too. An index is a usize, as a place in
+// the store is reckoned from it, and a contract says where it must fit into its two bytes: as a u16 it would be widened at each use, and what
+// narrows the number of the records made would owe the same bound.
 #![tactic(auto)]
 
 pub mod codes;

@@ -1,6 +1,7 @@
 // The records that the parser makes once the operands of a node are read. Those that cannot be refused are a Result too, as their callers answer with it.
 // Store and state are two parameters: the state is a value, and each caller lends the store anew, so a struct of both would be made for each call.
-// An index does not know how many records are made, so each contract says of its parts that they are.
+// An index does not know how many records are made, so each contract says of its parts that they are. What is put as an index is below 65,536, as a record
+// has two bytes for it.
 #![tactic(auto)]
 
 ghost use Rattle.std.specs.Prelude.{◌≡◌, ◌+◌, ◌-◌, ◌*◌, ◌^◌, ◌≤◌, ◌<◌, length, Ok, Some};

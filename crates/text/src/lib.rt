@@ -71,7 +71,8 @@ fn first_byte(b: u8) -> Option<Follow>
     }
 }
 
-// Whether a byte passes the test. It goes on to the end in any case, so that many bytes are tested at once.
+// Whether a byte passes the test. It goes on to the end in any case, so that many bytes are tested at once: the iterators' `any` tests one at a time, and
+// took several times as long (docs/DECISIONS.md, 54).
 fn any<F: Fn(u8) -> bool>(s: &[u8], passes: F) -> bool
     requires { F.IsAlwaysCallable passes }
     ensures { (test : ℕ → Bool) → ((b : ℕ) (r : Bool) → F.post passes b r → r ≡ test b) → result ≡ any test s.now }

@@ -103,7 +103,8 @@ fn put_name(dialect: Dialect, name: &[u8], out: &mut Output)
     }
 }
 
-// The length of the name of a command, escaped twice.
+// The length of the name of a command, escaped twice. It is added in a loop: std's `sum` over a `map` would want a contract of the closure, and that every
+// part of the sum is a number of the machine.
 fn name_len(dialect: Dialect, name: &[u8]) -> usize
     requires { length (in_text dialect (escape (escape (or_nul name.now)))) < 2 ^ 64 }
     ensures { result ≡ length (in_text dialect (escape (escape (or_nul name.now)))) }
