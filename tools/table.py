@@ -151,6 +151,7 @@ def spelled(literal):
 
 SOURCE = Template("""\
 // The command table: the names of the commands, sorted by their bytes, each with its token. Written by tools/table.py from the Rust's token.rs.
+// Names are strings: were they byte strings, the check of a function that names the static would run out of its steps at 192 rows.
 ghost use Rattle.std.specs.Prelude.{◌≡◌, map};
 ghost use Rattle.token.specs.Key.{row_of, rows};
 

@@ -1,6 +1,7 @@
 // The Debug text of the tokens that become `Undefined`, escaped once more, as the error text has it, in a dialect. It is written by hand, since a
 // derived Debug promises nothing of the bytes that it writes. Each text has its length from a function of its own, as in `text::put`; dialect and
-// output are two parameters, since one is only read and the other written.
+// output are two parameters, since one is only read and the other written, and so are dialect and body: the struct of both, with the store, is made
+// above, where there is a store.
 ghost use Rattle.std.specs.Prelude.{◌≡◌, ◌^◌, ◌<◌, length};
 ghost use Rattle.text.specs.Put.{Room, Puts};
 ghost use Rattle.text.specs.Xml.{in_text};
@@ -157,7 +158,7 @@ pub fn put_debug(dialect: Dialect, s: &[u8], u: Undefined, out: &mut Output)
     }
 }
 
-// The length of the Debug text of a token, escaped once more.
+// The length of the Debug text of a token, escaped once more: 13 is that of the two pieces around a name.
 pub fn debug_len(dialect: Dialect, s: &[u8], u: Undefined) -> usize
     requires { Inside (length s.now) u × (length (in_text dialect (escape (debug s.now u))) < 2 ^ 64) }
     ensures { result ≡ length (in_text dialect (escape (debug s.now u))) }

@@ -57,7 +57,7 @@ pub enum Token {
     Command(usize, usize),
 }
 
-// The tokens that begin no node, which the parser makes an `Undefined`.
+// The tokens that begin no node, which the parser makes an `Undefined`. They have a type of their own, so that no other token can be one.
 #[derive(Clone, Copy)]
 pub enum Undefined {
     EOF,
@@ -120,7 +120,7 @@ pub fn operator_in(dialect: Dialect, c: u32) -> u32
 {
     match dialect {
         Dialect::Old => match c {
-            0x220b => 0x2209,
+            0x220b => 0x2209, // as \notin
             _ => c,
         },
         Dialect::Strict => c,

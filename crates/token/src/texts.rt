@@ -5,7 +5,7 @@ ghost use Rattle.token.specs.Texts.{text_of, text_in, width_of};
 
 use text::Dialect;
 
-// The fixed text of a number.
+// The fixed text of a number. One that has none gives the empty text, as in the definition, here and in the next function.
 pub fn text_of(n: u32) -> &'static [u8]
     ensures { result.now ≡ bytes (text_of n) }
 {
