@@ -5,9 +5,9 @@
 
 Run it at the repository's root, then `rt fmt` in crates/token. It writes, below crates/token,
   specs/Table.antt  the names of the commands, sorted by their bytes, each with its token
-  src/table.rt      the same in Rattle
-Nothing of it is trusted: the check holds `table::table` to specs/Table.antt, and proofs/Agree.antt holds this to the arms of
-specs/Command.antt: one of our own (OWN) before the Rust's.
+  src/table.rt      the same in Rattle, and for each first byte where its names begin
+Nothing of it is trusted: the check holds `table::table` to specs/Table.antt, `table::start` to what specs/Key.antt counts in it, and
+proofs/Agree.antt holds specs/Table.antt to the arms of specs/Command.antt: one of our own (OWN) before the Rust's.
 """
 import re
 import sys
@@ -17,6 +17,7 @@ from pathlib import Path
 from string import Template
 
 CRATE = Path("crates/token")
+ASCII = range(128)
 
 STRING = r'"(?:\\.|[^"\\])*"'
 CHARACTER = r"'(?:\\.|[^'\\])+'"
@@ -153,7 +154,7 @@ SOURCE = Template("""\
 // The command table: the names of the commands, sorted by their bytes, each with its token. Written by tools/table.py from the Rust's token.rs.
 // Names are strings: were they byte strings, the check of a function that names the static would run out of its steps at 192 rows.
 ghost use Rattle.std.specs.Prelude.{◌≡◌, map};
-ghost use Rattle.token.specs.Key.{row_of, rows};
+ghost use Rattle.token.specs.Key.{row_of, rows, rows_of, start};
 
 use super::Token;
 use attribute::{Accent, DisplayStyle, Variant};
@@ -167,13 +168,44 @@ pub fn table() -> &'static [(&'static str, Token)]
 {
     &TABLE
 }
+
+// For each byte below 128 how many names begin with a lesser one, and at 128 the number of names: each name is ASCII.
+static STARTS: [u16; $bytes] = [
+$starts
+];
+
+// The place of the first row whose name begins with the byte b or a greater one, or the number of rows where none does.
+fn start(b: usize) -> usize
+    ensures { result ≡ start b }
+{
+    match STARTS.get(b) {
+        Some(&n) => usize::from(n),
+        None => $size,
+    }
+}
+
+// The rows whose names begin with a byte. A search of these alone compares far fewer names than one of the whole table.
+pub fn rows_of(first: u8) -> &'static [(&'static str, Token)]
+    ensures { map row_of result.now ≡ rows_of first }
+{
+    let b = usize::from(first);
+    &table()[start(b)..start(b + 1)]
+}
 """)
+
 
 def source(arms):
     return SOURCE.substitute(
         size=len(arms),
         rows="".join(f"    ({arm.quoted}, {in_rattle(arm.token)}),\n" for arm in arms),
+        bytes=len(ASCII) + 1,
+        starts="".join(f"    {n},\n" for n in starts(arms)),
     )
+
+
+def starts(arms):
+    """For each byte of ASCII how many names begin with a lesser one, and the number of names."""
+    return [sum(arm.name[0] < b for arm in arms) for b in [*ASCII, len(ASCII)]]
 
 
 def in_rattle(token):

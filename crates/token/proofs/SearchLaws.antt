@@ -1,7 +1,7 @@
 -- What std's search of the rows finds: the place of a name in the table, or that the table has no such name.
 -- Assumes nothing.
-use Rattle.std.specs.Prelude.{◌≡◌, ℕ, ◌+◌, ◌<◌, List, length, map, slice_index_or, Err}
-use mathlib.Core.Path.{refl, sym, ap, ◌∙◌}
+use Rattle.std.specs.Prelude.{◌≡◌, ℕ, ◌+◌, ◌-◌, ◌<◌, ◌≤◌, List, length, map, drop, slice_index_or, slice_range, Err}
+use mathlib.Core.Path.{refl, sym, ap, subst, ◌∙◌}
 use mathlib.Core.List as L
 use native.Mathlib.Omega.{arith}
 use denote.Ref.{Bor}
@@ -10,17 +10,18 @@ use Rattle.std.specs.Cmp.Lexicographic.{nat_list_cmp_total, bytes_decides}
 use Rattle.std.specs.List.Sorted.{IsBinarySearchResult, IsPartitionPoint, IsSortedBy}
 use Rattle.std.specs.Ordering.{is_lt, is_eq}
 use Rattle.std.specs.declared.cmp.Ordering.TheVariants.{Less, Equal, Greater}
-use Rattle.std.proofs.lemmas.List.{length-map, get_or-map}
+use Rattle.std.proofs.lemmas.List.{length-map, get_or-map, length-take, length-drop, get_or-take, get_or-drop}
 use Rattle.std.proofs.lemmas.List.Sorted.{searchable_from_sorted}
 use Rattle.std.proofs.lemmas.Map.Text.{is_eq-slice_cmp}
 use Rattle.token.specs.declared.Token.{Token}
 use Rattle.token.specs.declared.Token.TheVariants.{EOF}
-use Rattle.token.specs.Command.{from_command}
+use Rattle.token.specs.Arms.{arms}
+use Rattle.token.specs.Command.{own_arms, from_command}
 use Rattle.token.specs.Spell.{◌=>◌}
 use Rattle.token.specs.Table.{size, entries}
-use Rattle.token.specs.Key.{codes, name_at, token_at, cmp, rows, row_of}
+use Rattle.token.specs.Key.{codes, name_at, token_at, cmp, rows, row_of, start, rows_of}
 use Rattle.text.proofs.Cases.{by_order, never}
-use Rattle.token.proofs.Agree.{rising, found, absent}
+use Rattle.token.proofs.Agree.{rising, start_rises, first_at, in_place, found, absent}
 
 -- names that compare as equal are equal
 same_name : (s t : List ℕ) → cmp s t ≡ Equal → s ≡ t
@@ -30,7 +31,7 @@ entries_size : length entries ≡ size
 unfolding entries
 entries_size = refl
 
-rows_size : length rows ≡ size
+pub rows_size : length rows ≡ size
 unfolding rows
 rows_size = length-map entries _ ∙ entries_size
 
@@ -43,39 +44,61 @@ row_is i d h = get_or-map (λ e. (codes e.name, e.gives)) entries i ("" => EOF) 
 any_row : Bor (List ℕ) × Token
 any_row = (record { ref_ptr = (0, 0); now = L.[] }, EOF)
 
-module _ (l : List (Bor (List ℕ) × Token)) (is : map row_of l ≡ rows) where
-  as_long : length l ≡ size
-  as_long = sym (length-map l row_of) ∙ ap length is ∙ rows_size
+-- the rows whose names begin with a byte, as they stand in the table
+module _ (b : ℕ) (l : List (Bor (List ℕ) × Token)) (is : map row_of l ≡ rows_of b) where
+  -- how far they go
+  as_long : (start b + length l ≡ start (b + 1)) × (start (b + 1) ≤ size)
+  unfolding rows_of
+  as_long =
+      let rises = start_rises b in
+      let counted : length l ≡ length (slice_range rows (start b) (start (b + 1))) = sym (length-map l row_of) ∙ ap length is in
+      (omega (arith, rises, counted, rows_size, length-take (start (b + 1) - start b) (drop (start b) rows), length-drop (start b) rows), rises.1)
 
-  at_place : (i : ℕ) (d : Bor (List ℕ) × Token) → i < length l → row_of (slice_index_or l i d) ≡ (name_at i, token_at i)
+  at_place : (i : ℕ) (d : Bor (List ℕ) × Token) → i < length l → row_of (slice_index_or l i d) ≡ (name_at (start b + i), token_at (start b + i))
+  unfolding rows_of
   at_place i d h =
-      sym (get_or-map row_of l i d (row_of d) h) ∙ ap (λ r. slice_index_or r i (row_of d)) is ∙ row_is i (row_of d) (omega (arith, as_long))
+      sym (get_or-map row_of l i d (row_of d) h) ∙ ap (λ r. slice_index_or r i (row_of d)) is
+      ∙ get_or-take (start (b + 1) - start b) (drop (start b) rows) i (row_of d) (omega (arith, as_long)) ∙ get_or-drop (start b) rows i (row_of d)
+      ∙ row_is (start b + i) (row_of d) (omega (arith, as_long))
 
   -- no name is less than the one before it
   sorted : IsSortedBy (λ a b. is_lt (cmp a.0.now b.0.now)) l
-  sorted k d a b =
-      let here : (slice_index_or l k d).0.now ≡ name_at k = ap (λ r. r.0) (at_place k d (omega arith)) in
-      let next : (slice_index_or l (k + 1) d).0.now ≡ name_at (k + 1) = ap (λ r. r.0) (at_place (k + 1) d b) in
-      rw (here, next, nat_list_cmp_total.antisymm (name_at (k + 1)) (name_at k), rising k (omega (arith, as_long)))
+  sorted k d low high =
+      let here : (slice_index_or l k d).0.now ≡ name_at (start b + k) = ap (λ r. r.0) (at_place k d (omega arith)) in
+      let after : start b + (k + 1) ≡ start b + k + 1 = omega arith in
+      let next : (slice_index_or l (k + 1) d).0.now ≡ name_at (start b + k + 1) = ap (λ r. r.0) (at_place (k + 1) d high) ∙ ap name_at after in
+      rw (here, next, nat_list_cmp_total.antisymm (name_at (start b + k + 1)) (name_at (start b + k)), rising (start b + k) (omega (arith, as_long)))
 
   module _ (s : List ℕ) (other : Token) where
     pub hit : (i : ℕ) (d : Bor (List ℕ) × Token) → i < length l → cmp (slice_index_or l i d).0.now s ≡ Equal → (slice_index_or l i d).1 ≡ from_command s other
     hit i d h e =
         let row = at_place i d h in
-        let name : name_at i ≡ s = sym (ap (λ r. r.0) row) ∙ same_name _ _ e in
-        ap (λ r. r.1) row ∙ sym (found other i (omega (arith, as_long))) ∙ ap (λ n. from_command n other) name
+        let name : name_at (start b + i) ≡ s = sym (ap (λ r. r.0) row) ∙ same_name _ _ e in
+        ap (λ r. r.1) row ∙ sym (found other (start b + i) (omega (arith, as_long))) ∙ ap (λ n. from_command n other) name
 
-    -- the rows below p are less than the name and those from p on are greater, so none has it
-    nowhere : (p : ℕ) → IsPartitionPoint (λ y. cmp y.0.now s ≡ Less) (λ y. cmp y.0.now s ≡ Greater) l p → (i : ℕ) → i < size → name_at i ≡ s → ⊥
-    nowhere p parts i h e =
-        let inside : i < length l = omega (arith, as_long) in
-        let name : (slice_index_or l i any_row).0.now ≡ s = ap (λ r. r.0) (at_place i any_row inside) ∙ e in
-        let tie : cmp (slice_index_or l i any_row).0.now s ≡ Equal = rw name (tied_itself nat_list_cmp_total s) in
-        by_order i p
-        (λ below. never (let less = parts.0 i any_row (omega arith) below in cc))
-        (λ above. never (let greater = parts.1 i any_row above inside in cc))
+    -- a row of the table with the name stands among these, where those below p are less than it and those from p on are greater
+    nowhere : slice_index_or s 0 0 ≡ b → (p : ℕ) → IsPartitionPoint (λ y. cmp y.0.now s ≡ Less) (λ y. cmp y.0.now s ≡ Greater) l p
+        → (i : ℕ) → i < size → name_at i ≡ s → ⊥
+    nowhere begins p parts i h e =
+        let byte_of : first_at i ≡ b = ap (λ n. slice_index_or n 0 0) e ∙ begins in
+        let low : start b ≤ i = subst (λ f. start f ≤ i) byte_of (in_place i h).0 in
+        let high : i < start (b + 1) = subst (λ f. i < start (f + 1)) byte_of (in_place i h).1 in
+        let k = i - start b in
+        let inside : k < length l = omega (arith, as_long) in
+        let whole : start b + k ≡ i = omega arith in
+        let name : (slice_index_or l k any_row).0.now ≡ s = ap (λ r. r.0) (at_place k any_row inside) ∙ ap name_at whole ∙ e in
+        let tie : cmp (slice_index_or l k any_row).0.now s ≡ Equal = rw name (tied_itself nat_list_cmp_total s) in
+        by_order k p
+        (λ below. never (let less = parts.0 k any_row (omega arith) below in cc))
+        (λ above. never (let greater = parts.1 k any_row above inside in cc))
 
-    pub miss : (p : ℕ) → IsBinarySearchResult (λ y. cmp y.0.now s) l (Err p) → other ≡ from_command s other
-    miss p parted =
+    pub miss : slice_index_or s 0 0 ≡ b → (p : ℕ) → IsBinarySearchResult (λ y. cmp y.0.now s) l (Err p) → other ≡ from_command s other
+    miss begins p parted =
         let parts = parted (searchable_from_sorted nat_list_cmp_total (λ (y : Bor (List ℕ) × Token). y.0.now) l s sorted) in
-        sym (absent s other (nowhere p parts))
+        sym (absent s other (nowhere begins p parts))
+
+-- no command has an empty name
+pub empty : (s : List ℕ) (other : Token) → length s ≤ 0 → other ≡ from_command s other
+unfolding from_command own_arms arms
+empty L.[] other h = refl
+empty (L.◌∷◌ x s) other h = absurd (omega arith)

@@ -13,7 +13,7 @@ ghost use Rattle.token.specs.Key.{cmp};
 
 use attribute::{Accent, DisplayStyle, Variant};
 use std::cmp::Ordering;
-use table::table;
+use table::rows_of;
 use text::Dialect;
 
 // The Rust's `Token`, but for `Illegal`, which no lexer makes.
@@ -103,7 +103,10 @@ impl Token {
 pub fn from_command(name: &[u8], unknown: Token) -> Token
     ensures { result ≡ from_command name.now unknown }
 {
-    let rows = table();
+    let Some(&first) = name.first() else {
+        return unknown;
+    };
+    let rows = rows_of(first);
     match rows.binary_search_by(
         |row| -> Ordering
             ensures { result ≡ cmp row.now.0.now name.entry.now }

@@ -1,7 +1,7 @@
 // The command table: the names of the commands, sorted by their bytes, each with its token. Written by tools/table.py from the Rust's token.rs.
 // Names are strings: were they byte strings, the check of a function that names the static would run out of its steps at 192 rows.
 ghost use Rattle.std.specs.Prelude.{◌≡◌, map};
-ghost use Rattle.token.specs.Key.{row_of, rows};
+ghost use Rattle.token.specs.Key.{row_of, rows, rows_of, start};
 
 use super::Token;
 use attribute::{Accent, DisplayStyle, Variant};
@@ -488,4 +488,32 @@ pub fn table() -> &'static [(&'static str, Token)]
     ensures { map row_of result.now ≡ rows }
 {
     &TABLE
+}
+
+// For each byte below 128 how many names begin with a lesser one, and at 128 the number of names: each name is ASCII.
+static STARTS: [u16; 129] = [
+    0, 0, 0, 0, 0, 0, 0, 0, 0, 0, 0, 0, 0, 0, 0, 0, 0, 0, 0, 0, 0, 0, 0, 0, 0, 0, 0, 0, 0, 0, 0, 0,
+    0, 1, 2, 2, 3, 4, 5, 6, 6, 6, 6, 6, 6, 7, 7, 7, 7, 7, 7, 7, 7, 7, 7, 7, 7, 7, 7, 8, 9, 9, 9, 9,
+    9, 9, 13, 19, 22, 27, 29, 30, 32, 32, 34, 35, 36, 45, 46, 48, 52, 56, 56, 61, 63, 66, 69, 70,
+    70, 71, 73, 74, 74, 75, 75, 75, 76, 76, 92, 126, 156, 181, 196, 200, 211, 217, 229, 231, 233,
+    282, 302, 325, 343, 355, 357, 377, 415, 435, 450, 464, 469, 470, 470, 471, 472, 473, 474, 474,
+    474,
+];
+
+// The place of the first row whose name begins with the byte b or a greater one, or the number of rows where none does.
+fn start(b: usize) -> usize
+    ensures { result ≡ start b }
+{
+    match STARTS.get(b) {
+        Some(&n) => usize::from(n),
+        None => 474,
+    }
+}
+
+// The rows whose names begin with a byte. A search of these alone compares far fewer names than one of the whole table.
+pub fn rows_of(first: u8) -> &'static [(&'static str, Token)]
+    ensures { map row_of result.now ≡ rows_of first }
+{
+    let b = usize::from(first);
+    &table()[start(b)..start(b + 1)]
 }
