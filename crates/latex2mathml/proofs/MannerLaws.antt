@@ -48,7 +48,7 @@ module _ (s : List ℕ) (display : DisplayStyle) (store room : ℕ) where
     pub fits : ltb room (length t) ≡ false
 
   pub told : (manner : Manner) (t : List ℕ) → translate manner s display store room ≡ accepted t → Told manner t
-  unfolding translate
+  unfolding translate checked refuse ◌>>=◌ body_limit
   told manner t e =
       let a = steps (checked body_limit s) _ t e in
       let c = steps (store_too_small store s) _ t a.then in
@@ -61,7 +61,7 @@ module _ (s : List ℕ) (display : DisplayStyle) (store room : ℕ) where
   markup d ns = in_math display (print_all d s ns)
 
   strict_of_old_lem : (t : List ℕ) → translate old s display store room ≡ accepted t → AsStrict (translate strict s display store room)
-  unfolding translate latex_to_mathml convert_content read_body refuse ◌>>=◌ is_strict
+  unfolding translate checked latex_to_mathml convert_content read_body refuse ◌>>=◌ body_limit is_strict
   strict_of_old_lem t e =
       let a = told old t e in
       let r = a.read in
@@ -73,7 +73,7 @@ module _ (s : List ℕ) (display : DisplayStyle) (store room : ℕ) where
       (λ g. AsStrict.taken (markup Dialect.Strict r.nodes) (rw (translate, a.passes, a.stored, latex_to_mathml, convert_content, read_body, r.parsed, f, g))))
 
   old_of_strict_lem : (t : List ℕ) → translate strict s display store room ≡ accepted t → AsOld (translate old s display store room)
-  unfolding translate latex_to_mathml convert_content read_body refuse ◌>>=◌ is_strict
+  unfolding translate checked latex_to_mathml convert_content read_body refuse ◌>>=◌ body_limit is_strict
   old_of_strict_lem t e =
       let a = told strict t e in
       let r = a.read in

@@ -12,6 +12,7 @@ use lib.Seq.{take_all}
 use Rattle.std.specs.Prelude.{Ok, Err, Option, Some, None, IsSome}
 use Rattle.text.specs.Text.{part}
 use Rattle.text.proofs.Cases.{never}
+use Rattle.attribute.specs.declared.DisplayStyle.{DisplayStyle}
 use Rattle.dollars.specs.declared.Delimiter.{Delimiter}
 use Rattle.error.specs.declared.Refusal.{Refusal}
 use Rattle.latex2mathml.specs.declared.Manner.{Manner}
@@ -20,7 +21,7 @@ use Rattle.dollars.specs.declared.Delimiter.TheVariants.{Double}
 use Rattle.dollars.specs.Dollars.{three_dollars, mark, width}
 use Rattle.dollars.specs.Places.{places, odd, next_place, Finds}
 use Rattle.latex2mathml.specs.Replace.{translate_body, substitute}
-use Rattle.latex2mathml.specs.Laid.{Laid, Lays, RoomFor, Fits, display_of, passed, growth, AtMost}
+use Rattle.latex2mathml.specs.Laid.{Laid, Lays, RoomFor, Fits, passed, growth, AtMost}
 use Rattle.latex2mathml.proofs.TranslateLaws.{translated_short}
 use Rattle.latex2mathml.proofs.LayLaws.{laid_nothing, laid_more, front_less}
 use Rattle.dollars.proofs.PlaceLaws.{places_none}
@@ -87,18 +88,18 @@ sofar_more o₀ o o' start at at' done bs h e p same small =
 
 -- ---- the pass
 
-module _ (manner : Manner) (store : ℕ) (delimiter : Delimiter) (s : List ℕ) (w : ℕ) where
+module _ (manner : Manner) (store : ℕ) (display : DisplayStyle) (delimiter : Delimiter) (s : List ℕ) (w : ℕ) where
   abbrev marks : ℕ → List ℕ
   marks from = places (mark delimiter) from (drop from s)
 
   abbrev rest : ℕ → Outcome (List ℕ)
-  rest from = substitute manner store (display_of delimiter) w s from (marks from)
+  rest from = substitute manner store display w s from (marks from)
 
   -- the text up to `from` is done and laid up to the place `at`
   pub record Passing (o₀ o : List ℕ) (start at from : ℕ) : Type 0 where
     pub wide : w ≡ width delimiter
     pub done : List ℕ
-    pub whole : passed manner store delimiter s ≡ (rest from >>= (λ l. accepted (done ++ l)))
+    pub whole : passed manner store display delimiter s ≡ (rest from >>= (λ l. accepted (done ++ l)))
     pub sofar : Sofar o₀ o start at done
     pub most : at ≤ start + from * growth
     pub inside : from ≤ length s
@@ -126,7 +127,7 @@ module _ (manner : Manner) (store : ℕ) (delimiter : Delimiter) (s : List ℕ) 
 
     pub passing_all : (o' : List ℕ) {a r : ℕ} → a ≡ next_place (mark delimiter) from (drop from s) → a ≡ length s → r ≡ at + length (part from (length s) s)
         → Laid o o' at (part from (length s) s) → length o' ≡ length o
-        → Lays (passed manner store delimiter s) o₀ o' start (Ok r) × AtMost (start + length s * growth) (Ok r)
+        → Lays (passed manner store display delimiter s) o₀ o' start (Ok r) × AtMost (start + length s * growth) (Ok r)
     unfolding substitute ◌>>=◌
     passing_all o' {a} {r} e end place laid same =
         let most = h.most in
@@ -169,22 +170,22 @@ module _ (manner : Manner) (store : ℕ) (delimiter : Delimiter) (s : List ℕ) 
             omega arith
 
         -- the whole, with the body translated or refused
-        whole_next : (m : List ℕ) → translate_body manner store (display_of delimiter) (part (a + w) b s) ≡ accepted m
-            → passed manner store delimiter s ≡ (rest (b + w) >>= (λ l. accepted (((h.done ++ part from a s) ++ m) ++ l)))
+        whole_next : (m : List ℕ) → translate_body manner store display (part (a + w) b s) ≡ accepted m
+            → passed manner store display delimiter s ≡ (rest (b + w) >>= (λ l. accepted (((h.done ++ part from a s) ++ m) ++ l)))
         unfolding substitute ◌>>=◌
         whole_next m is = h.whole ∙ rw (p.marks, substitute, is) (more_done (rest (b + w)) h.done (part from a s) m)
 
-        body_most : (m : List ℕ) → translate_body manner store (display_of delimiter) (part (a + w) b s) ≡ accepted m → at₁ + length m ≤ start + (b + w) * growth
+        body_most : (m : List ℕ) → translate_body manner store display (part (a + w) b s) ≡ accepted m → at₁ + length m ≤ start + (b + w) * growth
         body_most m is =
-            let short = translated_short manner (part (a + w) b s) (display_of delimiter) store m is in
+            let short = translated_short manner (part (a + w) b s) display store m is in
             let n = length_part (a + w) b s in
             let most = prose_most in
             let gap = p.gap in
             let some = p.some in
             omega arith
 
-        pub body_room : (sure : Bool) → (sure ≡ true → Fits (passed manner store delimiter s) o₀ start)
-            → RoomFor (translate_body manner store (display_of delimiter) (part (a + w) b s)) sure o₁ at₁
+        pub body_room : (sure : Bool) → (sure ≡ true → Fits (passed manner store display delimiter s) o₀ start)
+            → RoomFor (translate_body manner store display (part (a + w) b s)) sure o₁ at₁
         body_room sure fits m is =
             let most = body_most m is in
             let last = p.last in
@@ -201,8 +202,8 @@ module _ (manner : Manner) (store : ℕ) (delimiter : Delimiter) (s : List ℕ) 
             }
 
         pub passing_refused : (o₂ : List ℕ) (r : Refusal)
-            → Lays (translate_body manner store (display_of delimiter) (part (a + w) b s)) o₁ o₂ at₁ (Err r)
-            → Lays (passed manner store delimiter s) o₀ o₂ start (Err r) × AtMost (start + length s * growth) (Err r)
+            → Lays (translate_body manner store display (part (a + w) b s)) o₁ o₂ at₁ (Err r)
+            → Lays (passed manner store display delimiter s) o₀ o₂ start (Err r) × AtMost (start + length s * growth) (Err r)
         unfolding substitute ◌>>=◌
         passing_refused o₂ r (is, front) =
             let place₁ = prose.place in (
@@ -214,7 +215,7 @@ module _ (manner : Manner) (store : ℕ) (delimiter : Delimiter) (s : List ℕ) 
             )
 
         pub passing_more : {o₂ : List ℕ} (r : ℕ) → length o₂ ≡ length o₁
-            → Lays (translate_body manner store (display_of delimiter) (part (a + w) b s)) o₁ o₂ at₁ (Ok r)
+            → Lays (translate_body manner store display (part (a + w) b s)) o₁ o₂ at₁ (Ok r)
             → Passing o₀ o₂ start r (b + w)
         passing_more {o₂} r same₂ q =
             let most = body_most q.text q.is in

@@ -15,6 +15,7 @@ use Rattle.text.proofs.Cases.{neither}
 use Rattle.text.proofs.AnyLaws.{none_cons}
 use Rattle.text.proofs.AsciiLaws.{ascii_well}
 use Rattle.text.proofs.PutLaws.{puts_all}
+use Rattle.attribute.specs.declared.DisplayStyle.{DisplayStyle}
 use Rattle.dollars.specs.declared.Delimiter.{Delimiter}
 use Rattle.dollars.specs.declared.Delimiter.TheVariants.{Single, Double}
 use Rattle.error.specs.declared.Refusal.{Refusal}
@@ -49,7 +50,7 @@ module _ (manner : Manner) (d : List ℕ) (store work : ℕ) (prose : is_prose d
 
   second : second_pass manner store d ≡ accepted d
   second =
-      second_is manner store d (plain_even Single d (unmarked Single)) ∙ plain_passed manner store Single d (unmarked Single)
+      second_is manner store d (plain_even Single d (unmarked Single)) ∙ plain_passed manner store DisplayStyle.Inline Single d (unmarked Single)
 
   module _ (short : length d ≤ 32768) where
     checked : Checked d
@@ -62,7 +63,7 @@ module _ (manner : Manner) (d : List ℕ) (store work : ℕ) (prose : is_prose d
 
     first : length d ≤ work → first_pass manner d store work ≡ accepted d
     unfolding refuse ◌>>=◌
-    first l = first_is manner d store work checked ∙ rw (plain_passed manner store Double d (unmarked Double), le-ltb work (length d) l)
+    first l = first_is manner d store work checked ∙ rw (plain_passed manner store DisplayStyle.Block Double d (unmarked Double), le-ltb work (length d) l)
 
     pub prose_typed : length d ≤ work → replacement manner d store work ≡ accepted d
     prose_typed l = replacement_is manner d store work d (first l) ∙ second

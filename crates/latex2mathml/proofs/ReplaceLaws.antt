@@ -10,9 +10,12 @@ use lib.ListN.{length, take, drop}
 use lib.Seq.{take_at, length-take-le}
 use borrow.Author.Tests.{ltb-false, lt-ltb, le-ltb}
 use Rattle.std.specs.Prelude.{Result, Ok, Err, Option, Some, None, is_some}
+use Rattle.text.specs.Utf8.{well_formed}
+use Rattle.text.specs.Any.{has_nul}
 use Rattle.text.specs.Put.{PutsAt}
 use Rattle.text.proofs.Cases.{never}
 use Rattle.text.proofs.PutLaws.{puts_all}
+use Rattle.attribute.specs.declared.DisplayStyle.{DisplayStyle}
 use Rattle.dollars.specs.declared.Delimiter.{Delimiter}
 use Rattle.dollars.specs.declared.Delimiter.TheVariants.{Single, Double}
 use Rattle.error.specs.declared.Refusal.{Refusal}
@@ -51,18 +54,32 @@ begins_laid {want} {want'} {b} {b'} {n} q is same =
 -- ---- pass one
 
 module _ (manner : Manner) (d : List ℕ) (store work : ℕ) where
+  -- what each test refuses, by the definition of the pass itself
+  pub first_long : 32768 < length d → first_pass manner d store work ≡ refused Refusal.TooLong
+  unfolding first_pass checked refuse ◌>>=◌ document_limit
+  first_long h = simp (first_pass, checked, lt-ltb 32768 (length d) h)
+
+  module _ (short : length d ≤ 32768) where
+    pub first_ill_formed : well_formed d ≡ false → first_pass manner d store work ≡ refused Refusal.IllFormed
+    unfolding first_pass checked refuse ◌>>=◌ document_limit
+    first_ill_formed e = simp (first_pass, checked, le-ltb 32768 (length d) short, e)
+
+    pub first_nul : well_formed d ≡ true → has_nul d ≡ true → first_pass manner d store work ≡ refused Refusal.NulByte
+    unfolding first_pass checked refuse ◌>>=◌ document_limit
+    first_nul well e = simp (first_pass, checked, le-ltb 32768 (length d) short, well, e)
+
   pub first_unchecked : {r : Refusal} → checked 32768 d ≡ refused r → first_pass manner d store work ≡ refused r
-  unfolding first_pass ◌>>=◌ document_limit
+  unfolding first_pass checked ◌>>=◌ document_limit
   first_unchecked e = rw (first_pass, e)
 
   module _ (passes : checked 32768 d ≡ accepted tt) where
     pub first_odd : odd (places two_dollars 0 d) ≡ true → first_pass manner d store work ≡ refused Refusal.InvalidNumberOfDollarSigns
-    unfolding first_pass refuse ◌>>=◌ document_limit
+    unfolding first_pass checked refuse ◌>>=◌ document_limit
     first_odd e = rw (first_pass, passes, e)
 
     pub first_three : odd (places two_dollars 0 d) ≡ false → ltb 0 (length (places three_dollars 0 d)) ≡ true
         → first_pass manner d store work ≡ refused Refusal.ThreeDollarSigns
-    unfolding first_pass refuse ◌>>=◌ document_limit
+    unfolding first_pass checked refuse ◌>>=◌ document_limit
     first_three even e = rw (first_pass, passes, even, e)
 
 -- a document whose bodies are looked at
@@ -86,13 +103,13 @@ module _ (delimiter : Delimiter) (s : List ℕ) (none : length s ≡ next_place 
   unfolding odd
   plain_even = rw no_marks
 
-module _ (manner : Manner) (store : ℕ) (delimiter : Delimiter) (s : List ℕ) (none : length s ≡ next_place (mark delimiter) 0 s) where
-  pub plain_passed : passed manner store delimiter s ≡ accepted s
+module _ (manner : Manner) (store : ℕ) (display : DisplayStyle) (delimiter : Delimiter) (s : List ℕ) (none : length s ≡ next_place (mark delimiter) 0 s) where
+  pub plain_passed : passed manner store display delimiter s ≡ accepted s
   unfolding substitute
   plain_passed = rw (no_marks delimiter s none, substitute)
 
   -- where it is laid
-  pub plain_laid : (o o' : List ℕ) (at r : ℕ) → r ≡ at + length s → Laid o o' at s → LaidThere (passed manner store delimiter s) o o' at r
+  pub plain_laid : (o o' : List ℕ) (at r : ℕ) → r ≡ at + length s → Laid o o' at s → LaidThere (passed manner store display delimiter s) o o' at r
   plain_laid o o' at r place laid = record { text = s; is = plain_passed; place = place; laid = laid }
 
 -- no windows, and so no three dollars in a row
@@ -104,31 +121,31 @@ plain_checked d passes none = record {
 }
 
 module _ (manner : Manner) (d : List ℕ) (store work : ℕ) where
-  pub first_is : Checked d → first_pass manner d store work ≡ (passed manner store Double d >>= (λ text. refuse (ltb work (length text)) Refusal.WorkTooSmall >>= (λ _. accepted text)))
-  unfolding first_pass refuse ◌>>=◌ document_limit
+  pub first_is : Checked d → first_pass manner d store work ≡ (passed manner store DisplayStyle.Block Double d >>= (λ text. refuse (ltb work (length text)) Refusal.WorkTooSmall >>= (λ _. accepted text)))
+  unfolding first_pass checked refuse ◌>>=◌ document_limit
   first_is h = rw (first_pass, h.passes, h.even, h.apart)
 
   -- a text too long for the work buffer
-  too_long : (h : Checked d) (text : List ℕ) → passed manner store Double d ≡ accepted text → work < length text → first_pass manner d store work ≡ refused Refusal.WorkTooSmall
+  too_long : (h : Checked d) (text : List ℕ) → passed manner store DisplayStyle.Block Double d ≡ accepted text → work < length text → first_pass manner d store work ≡ refused Refusal.WorkTooSmall
   unfolding refuse ◌>>=◌
   too_long h text is l = first_is h ∙ rw (is, lt-ltb work (length text) l)
 
   pub plain_large : Checked d → length d ≡ next_place two_dollars 0 d → work < length d → first_pass manner d store work ≡ refused Refusal.WorkTooSmall
-  plain_large h none l = too_long h d (plain_passed manner store Double d none) l
+  plain_large h none l = too_long h d (plain_passed manner store DisplayStyle.Block Double d none) l
 
   module _ (b b' : List ℕ) (h : Checked d) where
-    pub first_refused : (r : Refusal) → Lays (passed manner store Double d) b b' 0 (Err r)
+    pub first_refused : (r : Refusal) → Lays (passed manner store DisplayStyle.Block Double d) b b' 0 (Err r)
         → Lays (first_pass manner d store work) b b' 0 (Err r)
     unfolding ◌>>=◌
     first_refused r (is, front) = (first_is h ∙ rw is, front)
 
-    pub first_large : (n : ℕ) → LaidThere (passed manner store Double d) b b' 0 n → work < n
+    pub first_large : (n : ℕ) → LaidThere (passed manner store DisplayStyle.Block Double d) b b' 0 n → work < n
         → Lays (first_pass manner d store work) b b' 0 (Err Refusal.WorkTooSmall)
     first_large n q l =
         let e = q.place in
         (too_long h q.text q.is (omega arith), q.laid.1)
 
-    pub first_fits : (n : ℕ) → LaidThere (passed manner store Double d) b b' 0 n → n ≤ work
+    pub first_fits : (n : ℕ) → LaidThere (passed manner store DisplayStyle.Block Double d) b b' 0 n → n ≤ work
         → LaidThere (first_pass manner d store work) b b' 0 n
     unfolding refuse ◌>>=◌
     first_fits n q l =
@@ -138,17 +155,17 @@ module _ (manner : Manner) (d : List ℕ) (store work : ℕ) where
   -- what an accepted pass one says of the document
   pub record First (text : List ℕ) : Type 0 where
     pub checked : Checked d
-    pub is : passed manner store Double d ≡ accepted text
+    pub is : passed manner store DisplayStyle.Block Double d ≡ accepted text
     pub inside : length text ≤ work
 
   module _ (text : List ℕ) (is : first_pass manner d store work ≡ accepted text) where
     pub first_accepted : First text
-    unfolding first_pass document_limit
+    unfolding first_pass checked ◌>>=◌ document_limit
     first_accepted =
         let passes = steps (checked 32768 d) _ text is in
         let even = not_refused (odd (places two_dollars 0 d)) Refusal.InvalidNumberOfDollarSigns _ text passes.then in
         let apart = not_refused (ltb 0 (length (places three_dollars 0 d))) Refusal.ThreeDollarSigns _ text even.1 in
-        let read = steps (passed manner store Double d) _ text apart.1 in
+        let read = steps (passed manner store DisplayStyle.Block Double d) _ text apart.1 in
         let fits = not_refused (ltb work (length read.value)) Refusal.WorkTooSmall _ text read.then in
         let same : read.value ≡ text = let e = fits.1 in cc in
         record {
@@ -161,7 +178,7 @@ module _ (manner : Manner) (d : List ℕ) (store work : ℕ) where
           inside = rw same at (ltb-false work (length read.value) fits.0);
         }
 
-    pub first_passable : (w : List ℕ) → work ≡ length w → Passable manner store Double d true w 0
+    pub first_passable : (w : List ℕ) → work ≡ length w → Passable manner store DisplayStyle.Block Double d true w 0
     first_passable w lent =
         let f = first_accepted in
         let short = (check_gives 32768 d f.checked.passes).0 in
@@ -180,25 +197,25 @@ module _ (manner : Manner) (store : ℕ) (text : List ℕ) where
   unfolding second_pass refuse ◌>>=◌
   second_odd e = rw (second_pass, e)
 
-  pub second_is : odd (places dollar 0 text) ≡ false → second_pass manner store text ≡ passed manner store Single text
+  pub second_is : odd (places dollar 0 text) ≡ false → second_pass manner store text ≡ passed manner store DisplayStyle.Inline Single text
   unfolding second_pass refuse ◌>>=◌
   second_is e = rw (second_pass, e)
 
   -- an accepted pass two can be written
   module _ (m : List ℕ) (is : second_pass manner store text ≡ accepted m) where
-    second_steps : (odd (places dollar 0 text) ≡ false) × (passed manner store Single text ≡ accepted m)
+    second_steps : (odd (places dollar 0 text) ≡ false) × (passed manner store DisplayStyle.Inline Single text ≡ accepted m)
     unfolding second_pass
     second_steps = not_refused (odd (places dollar 0 text)) Refusal.InvalidNumberOfDollarSigns _ m is
 
-    pub second_passed : passed manner store Single text ≡ accepted m
+    pub second_passed : passed manner store DisplayStyle.Inline Single text ≡ accepted m
     second_passed = second_steps.1
 
-    pub second_written : {o o' : List ℕ} {at r : ℕ} → WrittenThere (passed manner store Single text) o o' at r → PutsAt o o' at m r
+    pub second_written : {o o' : List ℕ} {at r : ℕ} → WrittenThere (passed manner store DisplayStyle.Inline Single text) o o' at r → PutsAt o o' at m r
     second_written q =
         let same : q.text ≡ m = let z = q.is in let y = second_passed in cc in
         rw (← same) q.puts
 
-    pub second_passable : (o : List ℕ) (at : ℕ) → at + length text * growth < 2 ^ 64 → at + length m ≤ length o → Passable manner store Single text true o at
+    pub second_passable : (o : List ℕ) (at : ℕ) → at + length text * growth < 2 ^ 64 → at + length m ≤ length o → Passable manner store DisplayStyle.Inline Single text true o at
     second_passable o at small room = record {
       small = small;
       even = second_steps.0;
@@ -217,15 +234,15 @@ module _ (manner : Manner) (store : ℕ) (text : List ℕ) (n : ℕ) (o b b₁ :
       let e = a.place in
       gives_nothing o (rw (a.is, lt-ltb (length o) (length a.text) (omega arith)))
 
-  pub finish_passable : length text * growth < 2 ^ 64 → n ≤ length o → Passable manner store Single text true o 0
+  pub finish_passable : length text * growth < 2 ^ 64 → n ≤ length o → Passable manner store DisplayStyle.Inline Single text true o 0
   finish_passable small l =
       let e = a.place in
       second_passable manner store text a.text a.is o 0 (omega arith) (omega arith)
 
-  pub finish_begins : length b₁ ≡ length b → Begins (passed manner store Single text) b₁ n
+  pub finish_begins : length b₁ ≡ length b → Begins (passed manner store DisplayStyle.Inline Single text) b₁ n
   finish_begins same = begins_laid a (second_passed manner store text a.text a.is) same
 
-  pub finished : {o' : List ℕ} {r : ℕ} → n ≤ length o → WrittenThere (passed manner store Single text) o o' 0 r
+  pub finished : {o' : List ℕ} {r : ℕ} → n ≤ length o → WrittenThere (passed manner store DisplayStyle.Inline Single text) o o' 0 r
       → Gives (in_room (length o) (second_pass manner store text)) (Ok n) o o'
   unfolding refuse ◌>>=◌
   finished {o'} {r} l q =
@@ -271,7 +288,7 @@ module _ (manner : Manner) (d : List ℕ) (store : ℕ) (w w' : List ℕ) (n : �
       drafted q.text q.is (record { place = q.place; output = q.laid.0 (omega arith) }) (omega arith) same most
 
   -- written after it was measured
-  pub drafted_written : (text : List ℕ) {r : ℕ} → first_pass manner d store (length w) ≡ accepted text → WrittenThere (passed manner store Double d) w w' 0 r
+  pub drafted_written : (text : List ℕ) {r : ℕ} → first_pass manner d store (length w) ≡ accepted text → WrittenThere (passed manner store DisplayStyle.Block Double d) w w' 0 r
       → n ≡ length text → length w' ≡ length w → n ≤ length d * growth → Drafted manner d store w w' n
   drafted_written text is q long same most =
       let f = (first_accepted manner d store (length w) text is).is in
@@ -293,13 +310,13 @@ module _ (manner : Manner) (d : List ℕ) (store : ℕ) (w w' : List ℕ) (n : �
 -- ---- the replacement
 
 module _ (manner : Manner) (d : List ℕ) (store : ℕ) (w b b₁ : List ℕ) (n : ℕ) (q : LaidThere (first_pass manner d store (length w)) b b₁ 0 n) where
-  pub replace_passable : Passable manner store Double d true w 0
+  pub replace_passable : Passable manner store DisplayStyle.Block Double d true w 0
   replace_passable = first_passable manner d store (length w) q.text q.is w refl
 
-  pub replace_begins : length b₁ ≡ length b → Begins (passed manner store Double d) b₁ n
+  pub replace_begins : length b₁ ≡ length b → Begins (passed manner store DisplayStyle.Block Double d) b₁ n
   replace_begins same = begins_laid q (first_accepted manner d store (length w) q.text q.is).is same
 
-  pub replace_drafted : (most : n ≤ length d * growth) (w' : List ℕ) {r : ℕ} → length w' ≡ length w → WrittenThere (passed manner store Double d) w w' 0 r
+  pub replace_drafted : (most : n ≤ length d * growth) (w' : List ℕ) {r : ℕ} → length w' ≡ length w → WrittenThere (passed manner store DisplayStyle.Block Double d) w w' 0 r
       → Drafted manner d store w w' n
   replace_drafted most w' same first =
       let e = q.place in
@@ -355,10 +372,10 @@ module _ (manner : Manner) (d : List ℕ) (store : ℕ) (w o : List ℕ) (at : �
   abbrev passes : Both manner d store (length w) f.text
   passes = both_accepted manner d store (length w) f.text f.is
 
-  pub write_first : Passable manner store Double d true w 0
+  pub write_first : Passable manner store DisplayStyle.Block Double d true w 0
   write_first = first_passable manner d store (length w) passes.text passes.first w refl
 
-  module _ (w' : List ℕ) (n : ℕ) (same : length w' ≡ length w) (first : WrittenThere (passed manner store Double d) w w' 0 n) (most : n ≤ 0 + length d * growth) where
+  module _ (w' : List ℕ) (n : ℕ) (same : length w' ≡ length w) (first : WrittenThere (passed manner store DisplayStyle.Block Double d) w w' 0 n) (most : n ≤ 0 + length d * growth) where
     written_long : n ≡ length passes.text
     written_long =
         let g = (first_accepted manner d store (length w) passes.text passes.first).is in
@@ -379,12 +396,12 @@ module _ (manner : Manner) (d : List ℕ) (store : ℕ) (w o : List ℕ) (at : �
         let e : write_drafted.text ≡ passes.text = cc in
         rw (write_drafted.front, e) passes.second
 
-    pub write_second : at < 2 ^ 63 → Passable manner store Single (take n w') true o at
+    pub write_second : at < 2 ^ 63 → Passable manner store DisplayStyle.Inline Single (take n w') true o at
     write_second small =
         let long = front_long manner d store w w' n write_drafted in
         let short = write_drafted.short in
         second_passable manner store (take n w') f.text second_accepted o at (omega arith) f.inside
 
-    pub write_done : {o' : List ℕ} {r : ℕ} → WrittenThere (passed manner store Single (take n w')) o o' at r
+    pub write_done : {o' : List ℕ} {r : ℕ} → WrittenThere (passed manner store DisplayStyle.Inline Single (take n w')) o o' at r
         → WrittenThere (replacement manner d store (length w)) o o' at r
     write_done q = record { text = f.text; is = f.is; puts = second_written manner store (take n w') f.text second_accepted q }

@@ -148,15 +148,30 @@ module _ (limit : ℕ) (s : List ℕ) where
 -- ---- a body by itself
 
 module _ (manner : Manner) (s : List ℕ) (display : DisplayStyle) (store room : ℕ) where
+  -- what each test refuses, by the definition of the translation itself
+  pub too_long : 4096 < length s → translate manner s display store room ≡ refused Refusal.TooLong
+  unfolding translate checked refuse ◌>>=◌ body_limit
+  too_long h = simp (translate, checked, lt-ltb 4096 (length s) h)
+
+  pub ill_formed : length s ≤ 4096 → well_formed s ≡ false → translate manner s display store room ≡ refused Refusal.IllFormed
+  unfolding translate checked refuse ◌>>=◌ body_limit
+  ill_formed h e = simp (translate, checked, le-ltb 4096 (length s) h, e)
+
+  pub nul_byte : length s ≤ 4096 → well_formed s ≡ true → has_nul s ≡ true → translate manner s display store room ≡ refused Refusal.NulByte
+  unfolding translate checked refuse ◌>>=◌ body_limit
+  nul_byte h e n = simp (translate, checked, le-ltb 4096 (length s) h, e, n)
+
   pub check_refused : {r : Refusal} → checked 4096 s ≡ refused r → translate manner s display store room ≡ refused r
-  unfolding translate ◌>>=◌ body_limit
+  unfolding translate checked ◌>>=◌ body_limit
   check_refused e = rw (translate, e)
 
   module _ (e : checked 4096 s ≡ accepted tt) where
     body_is : translate manner s display store room
         ≡ (outcome (read_nodes manner s store) >>= (λ ns. refuse (ltb room (length (markup manner s display ns))) Refusal.OutputTooSmall >>= (λ _. accepted (markup manner s display ns))))
-    unfolding translate refuse ◌>>=◌ body_limit
-    body_is = simp (translate, e, le-ltb 4096 (length s) (check_gives 4096 s e).0, math_is manner s display, nodes_is manner s store, bind_bind)
+    unfolding translate checked refuse ◌>>=◌ body_limit
+    body_is =
+        let g = check_gives 4096 s e in
+        simp (translate, checked, le-ltb 4096 (length s) g.0, g.1, g.2, math_is manner s display, nodes_is manner s store, bind_bind)
 
     pub body_no : {r : Refusal} → read_nodes manner s store ≡ Parsed.refused r → translate manner s display store room ≡ refused r
     unfolding outcome ◌>>=◌

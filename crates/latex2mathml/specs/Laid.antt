@@ -66,8 +66,8 @@ display_of Single = DisplayStyle.Inline
 display_of Double = DisplayStyle.Block
 
 -- a pass: the text with the bodies between its marks translated
-abbrev pub passed : Manner → ℕ → Delimiter → List ℕ → Outcome (List ℕ)
-passed m store delimiter s = substitute m store (display_of delimiter) (width delimiter) s 0 (places (mark delimiter) 0 s)
+abbrev pub passed : Manner → ℕ → DisplayStyle → Delimiter → List ℕ → Outcome (List ℕ)
+passed m store display delimiter s = substitute m store display (width delimiter) s 0 (places (mark delimiter) 0 s)
 
 -- no byte of a text grows to more than this many in a pass
 abbrev pub growth : ℕ
@@ -75,11 +75,11 @@ growth = 2 ^ 19
 
 -- what a pass asks for: places that are numbers of the machine, marks that are even in number and do not overlap,
 -- and a text that fits where it is sure to
-pub record Passable (m : Manner) (store : ℕ) (delimiter : Delimiter) (s : List ℕ) (sure : Bool) (o : List ℕ) (at : ℕ) : Type 0 where
+pub record Passable (m : Manner) (store : ℕ) (display : DisplayStyle) (delimiter : Delimiter) (s : List ℕ) (sure : Bool) (o : List ℕ) (at : ℕ) : Type 0 where
   pub small : at + length s * growth < 2 ^ 64
   pub even : odd (places (mark delimiter) 0 s) ≡ false
   pub apart : delimiter ≡ Double → ltb 0 (length (places three_dollars 0 s)) ≡ false
-  pub fits : sure ≡ true → Fits (passed m store delimiter s) o at
+  pub fits : sure ≡ true → Fits (passed m store display delimiter s) o at
 
 -- how long an accepted answer is at most
 abbrev pub AtMost : ℕ → Result ℕ Refusal → Type 0

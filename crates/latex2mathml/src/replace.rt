@@ -83,8 +83,8 @@ fn substitute(
     start: usize,
     sure: bool,
 ) -> Result<usize, Refusal>
-    requires { Passable manner (length store.old) delimiter s.now sure out.old start }
-    ensures { Lays (passed manner (length store.old) delimiter s.now) out.old out.new start result × AtMost (start + length s.now * growth) result }
+    requires { Passable manner (length store.old) (display_of delimiter) delimiter s.now sure out.old start }
+    ensures { Lays (passed manner (length store.old) (display_of delimiter) delimiter s.now) out.old out.new start result × AtMost (start + length s.now * growth) result }
 {
     let width = delimiter.width();
     let display = display_of(delimiter);
@@ -108,8 +108,8 @@ fn write_pass(
     out: &mut [u8],
     at: usize,
 ) -> usize
-    requires { Passable manner (length store.old) delimiter s.now true out.old at }
-    ensures { WrittenThere (passed manner (length store.old) delimiter s.now) out.old out.new at result × (result ≤ at + length s.now * growth) }
+    requires { Passable manner (length store.old) (display_of delimiter) delimiter s.now true out.old at }
+    ensures { WrittenThere (passed manner (length store.old) (display_of delimiter) delimiter s.now) out.old out.new at result × (result ≤ at + length s.now * growth) }
 {
     substitute(manner, s, delimiter, store, out, at, true).unwrap()
 }
@@ -174,8 +174,8 @@ fn settle(
     n: usize,
     out: &mut [u8],
 ) -> usize
-    requires { Passable manner (length store.old) delimiter s.now true out.old 0 × Begins (passed manner (length store.old) delimiter s.now) draft.now n }
-    ensures { WrittenThere (passed manner (length store.old) delimiter s.now) out.old out.new 0 result }
+    requires { Passable manner (length store.old) (display_of delimiter) delimiter s.now true out.old 0 × Begins (passed manner (length store.old) (display_of delimiter) delimiter s.now) draft.now n }
+    ensures { WrittenThere (passed manner (length store.old) (display_of delimiter) delimiter s.now) out.old out.new 0 result }
 {
     if n <= draft.len() {
         put(&draft[..n], out, 0)

@@ -1,10 +1,12 @@
--- The length of what a record prints without its parts, kind by kind, as the numbers that the code adds.
+-- The length of what a record prints without its parts, and of a leaf at a place, kind by kind, as the numbers that the code adds.
 -- Assumes nothing.
 use mathlib.Core.Path.{◌≡◌, refl, sym, ap, ◌∙◌}
 use mathlib.Core.Bool.{Bool, true, false}
 use mathlib.Core.List.{List}
-use Prim.Native.Nat.{ℕ, ◌+◌, ◌-◌, ◌≤◌, ◌<◌}
+use Prim.Native.Nat.{ℕ, ◌+◌, ◌-◌, ◌^◌, ◌≤◌, ◌<◌}
 use native.Mathlib.Omega.{arith}
+use types.Run.{OneOf}
+use denote.Enum.Declared.{tag_of}
 use lib.Dec.{eqb, ltb}
 use borrow.Author.Tests.{lt-ltb, le-ltb}
 use lib.ListN.{length, get_or, length-append, length-take, length-drop, get_or-eq_default}
@@ -32,10 +34,13 @@ use Rattle.ast.specs.declared.Fields.{Fields}
 use Rattle.ast.specs.Shape.{shapes, matrix_shape, shape_of}
 use Rattle.ast.specs.Tree.{leaf}
 use Rattle.markup.specs.declared.Place.{Place}
-use Rattle.markup.specs.Print.{fixed_text, width_text, letter_text, character, operator_text, stretched_text, variant_text, letter_markup, operator_markup, parse_error, sized_end, sized_markup, undefined_markup, print_leaf, slash_leaf, slash, align_text, display_text, at_place}
+use Rattle.markup.specs.contracts.Place.{the_type}
+use Rattle.markup.specs.Print.{fixed_text, width_text, letter_text, character, operator_text, stretched_text, variant_text, letter_markup, operator_markup, parse_error, sized_end, sized_markup, undefined_markup, print_leaf, slash_leaf, slash, cell_leaf, align_text, display_text, at_place}
 use Rattle.markup.specs.Fronts.{accent_text, style_front, front_one, back_one, front_two, back_two}
 use Rattle.markup.specs.Own.{under, own_text, own_errors}
 use Rattle.markup.proofs.PrintLaws.{italic_letter, other_letter, error_ampersand, error_new_line, undefined_pieces}
+use Rattle.markup.proofs.ShortLaws.{debug_short}
+use Rattle.leaves.proofs.LeafLaws.{anywhere, unslashed, uncelled, no_slash, no_cell}
 
 -- ---- a letter and an operator, plain and under a slash
 pub letter_under : (d : Dialect) (c : ℕ) (v : Variant) → length (at_place d Place.Slashed (leaf (Leaf.Letter c v)) (letter_markup d c v)) ≡ 17 + length (variant_text v) + length (character d c)
@@ -66,6 +71,10 @@ operator_other d c e = rw (operator_markup, e) (simp length-append (omega arith)
 pub undefined_long : (d : Dialect) (s : List ℕ) (u : Undefined) → length (undefined_markup d s u) ≡ 43 + length (in_text d (escape (debug s u)))
 unfolding text_opens undefined_markup
 undefined_long d s u = rw (undefined_pieces d (escape (debug s u))) (simp length-append (omega arith))
+
+-- .. which is a number of the machine where the body is as short as one that is read
+pub undefined_fits : (d : Dialect) (s : List ℕ) (u : Undefined) → length s ≤ 4096 → length (undefined_markup d s u) < 2 ^ 64
+undefined_fits d s u short = rw (undefined_long d s u) (omega (arith, debug_short d s u))
 
 -- ---- any kind, by its tag
 pub tagged : (d : Dialect) (b : Bool) (s : List ℕ) (f : Fields) (tag : ℕ) {n : ℕ} → f.tag ≡ tag → n ≡ length (own_text d (under b) s (get_or shapes tag matrix_shape f.attr f.x f.y))
@@ -139,6 +148,34 @@ own_new_line d b s = same_under d b s Leaf.NewLine refl ∙ ap (λ m. length m) 
 pub own_undefined : (d : Dialect) (b : Bool) (s : List ℕ) (u : Undefined) → length (own_text d (under b) s (Shape.Leaf (Leaf.Undefined u))) ≡ length (undefined_markup d s u)
 unfolding print_leaf slash_leaf
 own_undefined d b s u = same_under d b s (Leaf.Undefined u) refl
+
+-- ---- a leaf at any place, where it neither bears a slash nor breaks a matrix
+pub at_any : (d : Dialect) (place : Place) (s : List ℕ) (l : Leaf) {n : ℕ} → slash_leaf d l (print_leaf d s l) ≡ print_leaf d s l → cell_leaf l (print_leaf d s l) ≡ print_leaf d s l
+    → length (own_text d Place.Plain s (Shape.Leaf l)) ≡ n → n ≡ length (at_place d place (leaf l) (print_leaf d s l))
+unfolding own_text at_place
+at_any d place s l a b h = sym (ap (λ m. length m) (anywhere d place (print_leaf d s l) refl a b) ∙ h)
+
+-- .. and a letter or an operator where it has no slash to bear
+pub letter_unslashed : (d : Dialect) (place : Place) (c : ℕ) (v : Variant) → OneOf unslashed (tag_of the_type place)
+    → length (at_place d Place.Plain (leaf (Leaf.Letter c v)) (letter_markup d c v)) ≡ length (at_place d place (leaf (Leaf.Letter c v)) (letter_markup d c v))
+unfolding at_place cell_leaf
+letter_unslashed d place c v h = ap (λ m. length m) (sym (no_slash d place (Leaf.Letter c v) (letter_markup d c v) h refl))
+
+pub operator_unslashed : (d : Dialect) (place : Place) (c : ℕ) → OneOf unslashed (tag_of the_type place)
+    → length (at_place d Place.Plain (leaf (Leaf.Operator c)) (operator_markup d c)) ≡ length (at_place d place (leaf (Leaf.Operator c)) (operator_markup d c))
+unfolding at_place cell_leaf
+operator_unslashed d place c h = ap (λ m. length m) (sym (no_slash d place (Leaf.Operator c) (operator_markup d c) h refl))
+
+-- .. and an ampersand or a new line where it has no matrix to break
+pub ampersand_uncelled : (d : Dialect) (place : Place) (s : List ℕ) → OneOf uncelled (tag_of the_type place)
+    → 39 ≡ length (at_place d place (leaf Leaf.Ampersand) (print_leaf d s Leaf.Ampersand))
+unfolding text_opens print_leaf slash_leaf
+ampersand_uncelled d place s h = ap (λ m. length m) (sym (no_cell d place Leaf.Ampersand (print_leaf d s Leaf.Ampersand) h refl ∙ error_ampersand d))
+
+pub new_line_uncelled : (d : Dialect) (place : Place) (s : List ℕ) → OneOf uncelled (tag_of the_type place)
+    → 37 ≡ length (at_place d place (leaf Leaf.NewLine) (print_leaf d s Leaf.NewLine))
+unfolding text_opens print_leaf slash_leaf
+new_line_uncelled d place s h = ap (λ m. length m) (sym (no_cell d place Leaf.NewLine (print_leaf d s Leaf.NewLine) h refl ∙ error_new_line d))
 
 -- ---- around parts
 pub own_over : (d : Dialect) (b : Bool) (s : List ℕ) (c : ℕ) (acc : Accent) → length (own_text d (under b) s (Shape.One (One.OverOp c acc))) ≡ 34 + length (bytes (accent acc)) + length (character d c)

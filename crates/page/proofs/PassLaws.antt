@@ -15,7 +15,7 @@ use Rattle.dollars.specs.declared.Delimiter.{Delimiter}
 use Rattle.dollars.specs.Places.{places}
 use Rattle.latex2mathml.specs.Replace.{translate_body, substitute}
 use Rattle.dollars.specs.Dollars.{mark, width}
-use Rattle.latex2mathml.specs.Laid.{display_of, passed}
+use Rattle.latex2mathml.specs.Laid.{passed}
 use Rattle.page.specs.Demand.{Each, joined, Made}
 use Rattle.page.specs.Words.{dollars}
 
@@ -123,8 +123,8 @@ module _ (manner : Manner) (store : ℕ) (display : DisplayStyle) where
         body_rest t
         (rest items (before ++ (done ++ (d ++ (b ++ d)))) [] t.behind (e + w) (e + w) h.1 (cut ∙ simp append_assoc) (simp length-append (omega arith)) (omega arith) t.next)
 
-pub passed_made : (manner : Manner) (store : ℕ) (delimiter : Delimiter) (items : List Item) (text : List ℕ) → Finds delimiter items
-    → passed manner store delimiter (marked delimiter items) ≡ accepted text → Made (Becomes manner store (display_of delimiter)) (λ t. t) items text
-passed_made manner store delimiter items text h is =
-    let r = rest manner store (display_of delimiter) delimiter (marked delimiter items) items [] [] text 0 0 h refl refl refl is in
-    record { outs = r.outs; each = r.each; whole = r.whole }
+  pub passed_made : (delimiter : Delimiter) (items : List Item) (text : List ℕ) → Finds delimiter items
+      → passed manner store display delimiter (marked delimiter items) ≡ accepted text → Made Becomes (λ t. t) items text
+  passed_made delimiter items text h is =
+      let r = rest delimiter (marked delimiter items) items [] [] text 0 0 h refl refl refl is in
+      record { outs = r.outs; each = r.each; whole = r.whole }

@@ -142,13 +142,13 @@ module _ (manner : Manner) (store : ℕ) where
   finds_inline (maths Single b ∷ l) (x ∷ xs) (f, more) (e, es) =
       (λ at. places_body b _ at f.bare Single (λ z. never cc), finds_inline l xs more es)
 
-  spans_made : (l : List Span) (first m : List ℕ) → Fine l → passed manner store Double (spanned l) ≡ accepted first
-      → passed manner store Single first ≡ accepted m → Made (Shows manner store) (λ t. t) (map part_of l) m
+  spans_made : (l : List Span) (first m : List ℕ) → Fine l → passed manner store DisplayStyle.Block Double (spanned l) ≡ accepted first
+      → passed manner store DisplayStyle.Inline Single first ≡ accepted m → Made (Shows manner store) (λ t. t) (map part_of l) m
   spans_made l first m h is then =
-      let one = passed_made manner store Double (map (item Double) l) first (finds_block l h) (rw (marked_items Double l) is) in
+      let one = passed_made manner store DisplayStyle.Block Double (map (item Double) l) first (finds_block l h) (rw (marked_items Double l) is) in
       let same : first ≡ marked Single (map (item Single) (after l one.outs)) =
       one.whole ∙ sym (marked_items Single (after l one.outs) ∙ after_joined l one.outs one.each) in
-      let two = passed_made manner store Single (map (item Single) (after l one.outs)) m (finds_inline l one.outs h one.each) (rw same at then) in
+      let two = passed_made manner store DisplayStyle.Inline Single (map (item Single) (after l one.outs)) m (finds_inline l one.outs h one.each) (rw same at then) in
       record { outs = two.outs; each = shows l one.outs two.outs h one.each two.each; whole = two.whole }
 
 -- ---- the replacement

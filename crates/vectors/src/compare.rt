@@ -52,28 +52,56 @@ fn put_wanted(case: Case, question: Question, line: &mut &[u8], wanted: &mut Fil
     }
 }
 
-// Compares the answer to a question. Behind what is written 64 bytes are looked at, which stay the byte 85 that the buffers begin with.
-// The text behind a document's output is what the work buffer is to begin with; what a page's holds afterwards is free.
+// Compares the answer to a question, asked with a work buffer. Behind what is written 64 bytes are looked at, which stay the byte 85 that the buffers begin
+// with. What is wanted of the output is taken off the line.
 // Case, question and text are no struct: a case may ask two questions, and the text stands in a buffer of its own. There is no heap, so the buffers are
 // arrays, here and in `main`.
-pub fn compare(case: Case, question: Question, text: &[u8], mut line: &[u8]) -> Verdict {
+fn compare_over(
+    case: Case,
+    question: Question,
+    text: &[u8],
+    line: &mut &[u8],
+    work: &mut [u8],
+) -> Verdict {
     let mut store = [0u8; 196608];
-    let mut work = [85u8; 65536];
-    let mut want_work = [85u8; 65536];
     let mut out = [85u8; 131072];
     let mut want = [85u8; 131072];
     let mut wanted = Filled::new(&mut want);
-    put_wanted(case, question, &mut line, &mut wanted);
+    put_wanted(case, question, line, &mut wanted);
     let length = wanted.end;
     let end = length.saturating_add(64).min(want.len());
-    let got = ask(case, question, text, &mut store, &mut work, &mut out);
-    if let Question::Document = question {
-        let mut pass_one = Filled::new(&mut want_work);
-        pass_one.unpack(&mut line);
-        let work_end = pass_one.end.saturating_add(64).min(want_work.len());
-        if !alike(&work, &want_work, work_end) {
-            return Err(got.number);
-        }
-    }
+    let got = ask(case, question, text, &mut store, work, &mut out);
     judge(case, got, length, &out, &want, end)
+}
+
+// Compares a document. The text behind its output is what the work buffer is to begin with; where that alone differs, the number that came is the stored
+// one.
+fn compare_document(case: Case, text: &[u8], mut line: &[u8]) -> Verdict {
+    let mut work = [85u8; 65536];
+    let mut want_work = [85u8; 65536];
+    compare_over(case, Question::Document, text, &mut line, &mut work)?;
+    let mut pass_one = Filled::new(&mut want_work);
+    pass_one.unpack(&mut line);
+    let end = pass_one.end.saturating_add(64).min(want_work.len());
+    if alike(&work, &want_work, end) {
+        Ok(())
+    } else {
+        Err(case.expected.number)
+    }
+}
+
+// Compares a page; what its work buffer holds afterwards is free.
+fn compare_page(case: Case, text: &[u8], mut line: &[u8]) -> Verdict {
+    let mut work = [85u8; 65536];
+    compare_over(case, Question::Page, text, &mut line, &mut work)
+}
+
+// Compares the answer to a question. A body wants no work buffer, and clearing one takes as long as its translation, so each question has the buffers that it
+// wants and no more.
+pub fn compare(case: Case, question: Question, text: &[u8], mut line: &[u8]) -> Verdict {
+    match question {
+        Question::Body(_) => compare_over(case, question, text, &mut line, &mut []),
+        Question::Document => compare_document(case, text, line),
+        Question::Page => compare_page(case, text, line),
+    }
 }

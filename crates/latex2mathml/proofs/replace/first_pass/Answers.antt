@@ -2,6 +2,7 @@
 use mathlib.Core.Path.{refl, sym, ◌∙◌}
 use lib.ListN.{length}
 use Rattle.std.proofs.lemmas.Result.{err_from_is_err_and}
+use Rattle.attribute.specs.declared.DisplayStyle.{DisplayStyle}
 use Rattle.dollars.specs.declared.Delimiter.TheVariants.{Double}
 use Rattle.dollars.specs.Dollars.{mark}
 use Rattle.text.proofs.Cases.{never}
@@ -26,7 +27,7 @@ returns-then-is_none c =
     let checked = plain_checked c.args.document.now c.in_ok-check.ensures (no_mark (mark Double) c.args.document.now _ _ c.first_mark.ensures c.is_none.ensures c.if-is_none.true) in
     let place = c.lay.ensures.0 in
     let room = c.if-room-document.false in
-    (first_fits c.args.manner c.args.document.now (length c.args.store.now) c.args.room c.args.out.now c.lay.new.out checked c.lay.result (plain_laid c.args.manner (length c.args.store.now) Double c.args.document.now (no_mark (mark Double) c.args.document.now _ _ c.first_mark.ensures c.is_none.ensures c.if-is_none.true) c.args.out.now c.lay.new.out 0 c.lay.result c.lay.ensures.0 c.lay.ensures.1) (omega arith), omega arith)
+    (first_fits c.args.manner c.args.document.now (length c.args.store.now) c.args.room c.args.out.now c.lay.new.out checked c.lay.result (plain_laid c.args.manner (length c.args.store.now) DisplayStyle.Block Double c.args.document.now (no_mark (mark Double) c.args.document.now _ _ c.first_mark.ensures c.is_none.ensures c.if-is_none.true) c.args.out.now c.lay.new.out 0 c.lay.result c.lay.ensures.0 c.lay.ensures.1) (omega arith), omega arith)
 
 pub returns-then-odd_marks : goal.returns-then-odd_marks
 returns-then-odd_marks c =

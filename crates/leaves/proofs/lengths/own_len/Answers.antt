@@ -10,7 +10,7 @@ use Rattle.markup.specs.Fronts.{front_one, back_one, front_two, back_two, front_
 use Rattle.markup.specs.Print.{character, letter_text}
 use Rattle.markup.specs.Own.{own_text}
 use Rattle.markup.proofs.ShortLaws.{fixed_short, character_short, operator_text_short, sized_end_short, letters_short, accent_short, display_short, align_short}
-use Rattle.leaves.proofs.LengthLaws.{tagged, tagged_last, own_number, own_letter, own_operator, own_function, own_name, own_space, own_stretched, own_stretched_text, own_other, own_sized, own_text_lem, own_ampersand, own_new_line, own_undefined, own_over, own_under, own_fenced, own_style, own_frac, own_matrix}
+use Rattle.leaves.proofs.LengthLaws.{undefined_fits, tagged, tagged_last, own_number, own_letter, own_operator, own_function, own_name, own_space, own_stretched, own_stretched_text, own_other, own_sized, own_text_lem, own_ampersand, own_new_line, own_undefined, own_over, own_under, own_fenced, own_style, own_frac, own_matrix}
 use native.Mathlib.Omega.{arith}
 use Rattle.leaves.proofs.lengths.own_len.Goals as goal
 
@@ -94,9 +94,27 @@ overflow_add-result-in-10 c =
     let short = c.requires.1 in
     omega (arith, letters_short c.args.dialect c.args.s.now c.args.f.x c.args.f.y)
 
+pub undefined_len-requires : goal.undefined_len-requires
+undefined_len-requires c = (tt, undefined_fits c.args.dialect c.args.s.now Undefined.EOF c.requires.1)
+
+pub undefined_len-requires-in-14 : goal.undefined_len-requires-in-14
+undefined_len-requires-in-14 c = (tt, undefined_fits c.args.dialect c.args.s.now Undefined.End c.requires.1)
+
+pub undefined_len-requires-in-15 : goal.undefined_len-requires-in-15
+undefined_len-requires-in-15 c = (tt, undefined_fits c.args.dialect c.args.s.now Undefined.Right c.requires.1)
+
+pub undefined_len-requires-in-16 : goal.undefined_len-requires-in-16
+undefined_len-requires-in-16 c = (tt, undefined_fits c.args.dialect c.args.s.now Undefined.RBrace c.requires.1)
+
+pub undefined_len-requires-in-17 : goal.undefined_len-requires-in-17
+undefined_len-requires-in-17 c = (tt, undefined_fits c.args.dialect c.args.s.now Undefined.Underscore c.requires.1)
+
+pub undefined_len-requires-in-18 : goal.undefined_len-requires-in-18
+undefined_len-requires-in-18 c = (tt, undefined_fits c.args.dialect c.args.s.now Undefined.Circumflex c.requires.1)
+
 pub undefined_len-requires-in-19 : goal.undefined_len-requires-in-19
 unfolding shape_of shapes
-undefined_len-requires-in-19 c = (rw c.in-19.is at c.requires.0, c.requires.1)
+undefined_len-requires-in-19 c = (rw c.in-19.is at c.requires.0, undefined_fits c.args.dialect c.args.s.now (Undefined.Command c.args.f.x c.args.f.y) c.requires.1)
 
 pub overflow_add-result-in-20-2 : goal.overflow_add-result-in-20-2
 unfolding character

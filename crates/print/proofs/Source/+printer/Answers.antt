@@ -86,17 +86,24 @@ print_node-returns-in-Matrix t c =
     prints_like (of_kind c.args.self.now.dialect c.args.place (Shape.Matrix _ _) c.get_record-r.ensures.0 c.from.ensures c.in-Matrix.is) c.print_matrix.ensures
 
 pub print_nodes-print_node-requires : goal.print_nodes-print_node-requires
-print_nodes-print_node-requires t c = (omega arith, going_node c.loop.invariant c.loop-test.true)
+print_nodes-print_node-requires t c =
+    let some = c.loop-test.true in
+    (omega arith, going_node c.loop.invariant (omega arith))
 
 pub print_nodes-get_next-i-requires : goal.print_nodes-get_next-i-requires
-print_nodes-get_next-i-requires t c = (going_node c.loop.invariant c.loop-test.true).there.fits
+print_nodes-get_next-i-requires t c =
+    let some = c.loop-test.true in
+    (going_node c.loop.invariant (omega arith)).there.fits
 
 pub print_nodes-loop-preserved : goal.print_nodes-loop-preserved
 print_nodes-loop-preserved t c =
-    rw c.get_next-i.ensures.0 (going_next c.loop.invariant c.loop-test.true c.print_node.ensures)
+    let some = c.loop-test.true in
+    rw c.get_next-i.ensures.0 (going_next c.loop.invariant (omega arith) c.print_node.ensures)
 
 pub print_nodes-returns : goal.print_nodes-returns
-print_nodes-returns t c = going_done c.loop.invariant c.loop-test.false
+print_nodes-returns t c =
+    let all = c.loop-test.false in
+    going_done c.loop.invariant (omega arith)
 
 pub print_one-put_front_one-requires : goal.print_one-put_front_one-requires
 print_one-put_front_one-requires t c =
