@@ -9,22 +9,24 @@ ghost use Rattle.breaks.specs.Pieces.{pieces, paragraphs};
 
 use dollars::search::next_byte;
 
-// How many bytes the line end at a place has: 1 for LF, 2 for CR LF; none stands there at a CR alone.
+// How many bytes the line end at a place has: 1 for LF, 2 for CR LF; none stands there at a CR alone. LF, the usual, is asked for before a second byte
+// is: beside a pattern of one byte a pattern of two has the length tested twice for each LF.
 #[tactic(auto, using(crate::proofs::BreakLaws::ends))]
 fn line_end(s: &[u8], i: usize) -> Option<usize>
     requires { i ≤ length s.now }
     ensures { FindsEnd s.now i result }
 {
-    match &s[i..] {
-        [b'\n', ..] => Some(1),
-        [b'\r', b'\n', ..] => Some(2),
+    match s[i..].split_first() {
+        Some((b'\n', _)) => Some(1),
+        Some((b'\r', [b'\n', ..])) => Some(2),
         _ => None,
     }
 }
 
 // The place of the first line feed from a place on that a blank line follows, a line end directly behind it. What stands before a line
 // feed matters at breaks alone, so it is not looked at here. Each search begins behind the line feed that the last one found, so the place is moved
-// by hand.
+// by hand. It is compiled into both callers, which then go on from where it found one or none, and make no Option to test.
+#[inline(always)]
 fn next_blank(s: &[u8], from: usize) -> Option<usize>
     requires { from ≤ length s.now }
     ensures { Finds (λ l. line_feed l && two_line_ends l) s.now from result }

@@ -181,6 +181,36 @@ pub starts_found : (b : ℕ) (s : List ℕ) (i : ℕ) (found : Option (Bor ℕ))
 starts_found b s i None q e none is = sym (starts_end b s i (ltb-false i (length s) (sym none)))
 starts_found b s i (Some x) q e some is = rw (e, starts_at b s i x.now (ltb-true i (length s) (sym some)), ← is) refl
 
+-- what stands behind the first of some bytes
+second_at : (b : ℕ) (l : List ℕ) → 2 ≤ length l → starts_with b (drop 1 l) ≡ eqb (get_or l 1 0) b
+unfolding starts_with
+second_at b [] h = absurd (omega arith)
+second_at b (x ∷ []) h = absurd (omega arith)
+second_at b (x ∷ y ∷ l) h = refl
+
+second_short : (b : ℕ) (l : List ℕ) → length l < 2 → starts_with b (drop 1 l) ≡ false
+unfolding starts_with
+second_short b [] h = refl
+second_short b (x ∷ []) h = refl
+second_short b (x ∷ y ∷ l) h = absurd (omega arith)
+
+-- whether a byte stands behind the place i, by what stands from there on
+module _ (b : ℕ) (s : List ℕ) (i : ℕ) where
+  abbrev onward : List ℕ
+  onward = take (length s - i) (drop i s)
+
+  at_second : starts_with b (drop (i + 1) s) ≡ starts_with b (drop 1 onward)
+  at_second = rw (take_rest s i, drop-drop 1 i s)
+
+  pub second_is : 2 ≤ length onward → get_or onward 1 0 ≡ b → starts_with b (drop (i + 1) s) ≡ true
+  second_is h e = at_second ∙ second_at b onward h ∙ eq-eqb _ _ e
+
+  pub second_not : 2 ≤ length onward → (get_or onward 1 0 ≡ b → ⊥) → starts_with b (drop (i + 1) s) ≡ false
+  second_not h e = at_second ∙ second_at b onward h ∙ ne_eqb _ _ e
+
+  pub second_none : length onward < 2 → starts_with b (drop (i + 1) s) ≡ false
+  second_none h = at_second ∙ second_short b onward h
+
 pair_at : (b : ℕ) (s : List ℕ) (i : ℕ) (x y : Bool) → starts_with b (drop i s) ≡ x → starts_with b (drop (i + 1) s) ≡ y → pair b (drop i s) ≡ (x && y)
 unfolding pair
 pair_at b s i x y first next = rw (first, drop-drop 1 i s, next)

@@ -17,17 +17,19 @@ fn has_byte(w: u64, b: u8) -> bool
     (sum | other) & 0x8080_8080_8080_8080 != 0x8080_8080_8080_8080
 }
 
-// Past the words without a b, from a place on. `position` over the words would give the k of the same sum, and its closure would have a contract of its
-// own.
+// Past the words without a b, from a place on. The place is counted beside the words: as a sum of `from` and the number of a word it takes more registers
+// and more instructions at each search. `position` over the words would ask for that sum too, and for a closure with a contract of its own.
 fn past_words(s: &[u8], from: usize, b: u8) -> usize
     requires { from ≤ length s.now }
     ensures { (next_place (starts_with b) from (drop from s.now) ≡ next_place (starts_with b) result (drop result s.now)) × (from ≤ result) × (result ≤ length s.now) }
 {
     let (words, _) = s[from..].as_chunks::<8>();
-    for (k, word) in words.iter().enumerate() {
+    let mut i = from;
+    for word in words {
         if has_byte(u64::from_le_bytes(*word), b) {
-            return from + 8 * k;
+            return i;
         }
+        i += 8;
     }
     from + 8 * words.len()
 }
@@ -53,16 +55,17 @@ pub(crate) fn stands_at(s: &[u8], i: usize, b: u8) -> bool
 }
 
 // The place of the first two b side by side from a place on. Each search begins behind the place that the last one found, so the place is moved by
-// hand.
+// hand. The second b is asked of what stands from the first on: where only the place behind the first is used, the compiler counts by that one in the
+// loop of `next_byte`, with one or two instructions more for each byte.
 pub fn next_pair(s: &[u8], from: usize, b: u8) -> Option<usize>
     requires { from ≤ length s.now }
     ensures { Finds (pair b) s.now from result }
 {
     let mut i = from;
     while let Some(first) = next_byte(s, i, b) {
-        i = first + 1;
-        if stands_at(s, i, b) {
-            return Some(first);
+        match &s[first..] {
+            [_, second, ..] if *second == b => return Some(first),
+            _ => i = first + 1,
         }
     }
     None

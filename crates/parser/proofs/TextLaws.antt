@@ -1,17 +1,20 @@
 -- The letters of a text are passed one by one, from place to place.
 -- Assumes nothing.
-use mathlib.Core.Path.{◌≡◌, ◌∙◌, ap}
+use mathlib.Core.Path.{◌≡◌, refl, sym, ◌∙◌, ap, subst}
 use mathlib.Core.List.{List}
 use mathlib.Core.Option.{none}
-use Prim.Native.Nat.{ℕ, zero, suc, ◌-◌, ◌≤◌, ◌<◌}
+use Prim.Native.Nat.{ℕ, zero, suc, ◌+◌, ◌-◌, ◌≤◌, ◌<◌}
 use native.Mathlib.Omega.{arith}
-use lib.ListN.{length, drop}
+use lib.ListN.{length, drop, get_or}
+use Rattle.text.proofs.Cases.{by_test, by_order}
 use Rattle.attribute.specs.declared.Variant.{Variant}
 use Rattle.token.specs.declared.Token.{Token}
 use Rattle.token.specs.Command.{acts_on_a_digit}
 use Rattle.token.specs.Roles.{letter_of}
 use Rattle.lexer.specs.declared.Lexeme.{Lexeme}
-use Rattle.lexer.specs.Lex.{next_token}
+use Rattle.lexer.specs.Lex.{is_alphabetic, run, lexeme, next_token}
+use Rattle.lexer.proofs.RunLaws.{run_more, run_stop, run_end}
+use Rattle.lexer.proofs.AlphabeticLaws.{letter_at}
 use Rattle.parser.specs.declared.Parser.{Parser}
 use Rattle.parser.specs.State.{following, next, past_letters, state_at, PastLetters, parse_text}
 use Rattle.parser.specs.Sound.{Sound}
@@ -55,9 +58,25 @@ module _ (s : List ℕ) (at : ℕ) (inside : at ≤ length s) (x : Lexeme) (is :
         let there = letter_lies in
         rw (← is) (past_letter s x c v e k made ∙ f k made (omega arith))
 
+-- the ASCII letters from a place on are passed as bytes
+past_run : (s : List ℕ) (n at : ℕ) → run is_alphabetic (drop at s) ≡ n → {l : Lexeme} → PastLetters s (at + n) l → PastLetters s at l
+past_run s zero at e {l} f = subst (λ (q : ℕ). PastLetters s q l) (omega arith) f
+past_run s (suc n) at e {l} f =
+    by_order at (length s)
+    (λ inside.
+    by_test (is_alphabetic (get_or s at 0))
+    (λ h.
+    let b = get_or s at 0 in
+    let rest : run is_alphabetic (drop (at + 1) s) ≡ n = omega (arith, e, run_more is_alphabetic s at inside h) in
+    let behind : PastLetters s (at + 1) l = past_run s n (at + 1) rest (subst (λ (q : ℕ). PastLetters s q l) (omega arith) f) in
+    past_on s at (omega arith) (lexeme (Token.Letter b Variant.Italic) at (at + 1)) (sym (letter_at s at inside h)) b Variant.Italic refl behind)
+    (λ h. absurd (omega (arith, e, run_stop is_alphabetic s at inside h))))
+    (λ h. absurd (omega (arith, e, run_end is_alphabetic s at h)))
+
 -- On the way past the letters from a place on, where l is the next token: what is behind the letters from it on is behind them all.
 pub record Passing (s : List ℕ) (from : ℕ) (l : Lexeme) : Type 0 where
   pub at : ℕ
+  pub reached : from ≤ at
   pub inside : at ≤ length s
   pub is : l ≡ next_token at (drop at s)
   pub ends : l.end ≤ length s
@@ -66,15 +85,40 @@ pub record Passing (s : List ℕ) (from : ℕ) (l : Lexeme) : Type 0 where
 pub passing_all : {s : List ℕ} {from : ℕ} {l : Lexeme} → Passing s from l → letter_of l.token ≡ none → PastLetters s from l
 passing_all {s} {from} {l} p e = p.on l (past_here s p.at p.inside l p.is e)
 
-module _ {s : List ℕ} {from : ℕ} {l : Lexeme} (p : Passing s from l) (c : ℕ) (v : Variant) (e : l.token ≡ Token.Letter c v) {l' : Lexeme} (is : l' ≡ next_token l.end (drop l.end s)) where
-  pub passing_more : l'.end ≤ length s → Passing s from l'
-  passing_more ends = record { at = l.end; inside = p.ends; is = is; ends = ends; on = λ x h. p.on x (past_on s p.at p.inside l p.is c v e h) }
+-- .. at the beginning, where l is the token behind the ASCII letters from a place on,
+pub passing_first : {s : List ℕ} {from at : ℕ} {l : Lexeme} → at ≡ from + run is_alphabetic (drop from s) → at ≤ length s → l ≡ next_token at (drop at s)
+    → l.end ≤ length s → Passing s from l
+passing_first {s} {from} {at} {l} run-is inside is ends = record {
+  at = at;
+  reached = omega arith;
+  inside = inside;
+  is = is;
+  ends = ends;
+  on = λ x h. past_run s (run is_alphabetic (drop from s)) from refl (subst (λ (q : ℕ). PastLetters s q x) run-is h);
+}
+
+-- .. and where l is a letter, and l' the token behind the ASCII letters behind it
+module _ {s : List ℕ} {from : ℕ} {l : Lexeme} (p : Passing s from l) (c : ℕ) (v : Variant) (e : l.token ≡ Token.Letter c v) {l' : Lexeme} (q : Passing s l.end l') where
+  pub passing_more : Passing s from l'
+  passing_more =
+      let here = rw (← p.is) at (next_lies s p.at p.inside) in
+      let first = p.reached in
+      let then = q.reached in
+      record {
+        at = q.at;
+        reached = omega (arith, here.from, here.wide);
+        inside = q.inside;
+        is = q.is;
+        ends = q.ends;
+        on = λ x h. p.on x (past_on s p.at p.inside l p.is c v e (q.on x h));
+      }
 
   pub passing_less : (l.start < length s) × (l.start < l'.start)
   unfolding letter_of
   passing_less =
       let here = rw (← p.is) at (next_lies s p.at p.inside) in
-      let there = rw (← is) at (next_lies s l.end p.ends) in
+      let there = rw (← q.is) at (next_lies s q.at q.inside) in
+      let behind = q.reached in
       let byte = letter_byte l.token c (rw e) in
       (omega (arith, here.wide, here.inside), omega (arith, here.wide, there.from))
 

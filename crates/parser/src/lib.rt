@@ -12,7 +12,7 @@ ghost use Rattle.parser.specs.Sound.{Sound};
 use crate::marks::token_is;
 use attribute::{ColumnAlign, DisplayStyle};
 use lexer::Lexeme;
-use lexer::letters::letter_or_token;
+use lexer::letters::past_alphabetic;
 use lexer::reader::token_from;
 use token::{Mark, Token};
 
@@ -101,14 +101,15 @@ fn following(t: Token, s: &[u8], at: usize) -> Lexeme
     token_from(s, at)
 }
 
-// The first token from a place on that is no letter.
+// The first token from a place on that is no letter. An ASCII letter is passed as a byte: no character is wanted here, and to make a token of each only
+// to pass it takes half as much again.
 fn past_letters(s: &[u8], from: usize) -> Lexeme
     requires { from ≤ length s.now }
     ensures { PastLetters s.now from result × (result.end ≤ length s.now) }
 {
-    let mut l = letter_or_token(s, from);
+    let mut l = token_from(s, past_alphabetic(s, from));
     while let Token::Letter(_, _) = l.token {
-        l = letter_or_token(s, l.end);
+        l = token_from(s, past_alphabetic(s, l.end));
     }
     l
 }

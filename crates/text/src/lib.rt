@@ -103,10 +103,16 @@ pub fn well_formed(s: &[u8]) -> bool
     }
     let mut next = Follow::new(0, 0x80, 0xbf);
     for &b in s {
-        if b < 0x80 && next.left == 0 {
-            continue;
-        }
-        let Some(behind) = next.step(b) else {
+        // `step` asks this too; where it alone does, the test for ASCII is joined with it, and the two are asked twice at each byte.
+        let behind = if next.left == 0 {
+            if b < 0x80 {
+                continue;
+            }
+            first_byte(b)
+        } else {
+            next.step(b)
+        };
+        let Some(behind) = behind else {
             return false;
         };
         next = behind;
@@ -180,6 +186,19 @@ fn tail(rest: &[u8], next: Follow, bits: u32) -> CodePoint
     }
 }
 
+// The code point whose first byte is `b`, with `rest` behind it. Compiled into `code_point` it would have registers saved there before it is known whether
+// a character is ASCII.
+#[inline(never)]
+fn from_first(b: u8, rest: &[u8]) -> CodePoint
+    ensures { result ≡ code_point (b ∷ rest.now) }
+{
+    let Some(next) = first_byte(b) else {
+        return replacement();
+    };
+    let bits = u32::from(b - lead(next.left));
+    tail(rest, next, bits)
+}
+
 // The code point at `at`, and the number of bytes that it takes. Where no character is left it is a NUL of no bytes and no `Option`: the Rust's
 // lexer reads a NUL there, and the definition says the same.
 pub fn code_point(s: &[u8], at: usize) -> CodePoint
@@ -195,9 +214,5 @@ pub fn code_point(s: &[u8], at: usize) -> CodePoint
             width: 1,
         };
     }
-    let Some(next) = first_byte(b) else {
-        return replacement();
-    };
-    let bits = u32::from(b - lead(next.left));
-    tail(&s[at + 1..], next, bits)
+    from_first(b, &s[at + 1..])
 }

@@ -12,6 +12,16 @@ pub struct Output<'a> {
     pub at: usize,
 }
 
+// Copies a piece to where it fits. It goes byte by byte: std's `copy_from_slice` is the C library's `memmove`, which a host would have to bring.
+fn copy(piece: &[u8], place: &mut [u8])
+    requires { length place.old ≡ length piece.now }
+    ensures { place.new ≡ piece.now }
+{
+    for (i, &b) in piece.iter().enumerate() {
+        place[i] = b;
+    }
+}
+
 impl<'a> Output<'a> {
     // An output that is written from a place of a buffer on.
     pub fn new(bytes: &'a mut [u8], at: usize) -> Output<'a>
@@ -28,7 +38,7 @@ impl<'a> Output<'a> {
         ensures { Puts self.old self.new piece.now }
     {
         let end = self.at + piece.len();
-        self.bytes[self.at..end].copy_from_slice(piece);
+        copy(piece, &mut self.bytes[self.at..end]);
         self.at = end;
     }
 

@@ -1,9 +1,9 @@
 -- The command table: its order, where its first bytes begin, and its agreement with the arms, each by a test that antt computes over the whole table.
 -- Assumes nothing.
-use Rattle.std.specs.Prelude.{◌≡◌, ℕ, ◌+◌, ◌-◌, ◌<◌, ◌≤◌, leb, ltb, Bool, true, false, List, length, slice_index_or}
-use mathlib.Core.Path.{refl}
+use Rattle.std.specs.Prelude.{◌≡◌, ℕ, zero, suc, ◌+◌, ◌-◌, ◌<◌, ◌≤◌, leb, ltb, eqb, not, Bool, true, false, List, [], ◌∷◌, length, get_or, slice_index_or}
+use mathlib.Core.Path.{refl, subst}
 use native.Mathlib.Omega.{arith}
-use borrow.Author.Tests.{leb-true, ltb-true}
+use borrow.Author.Tests.{leb-true, ltb-true, eqb-false, not-true}
 use Rattle.std.proofs.lemmas.List.{get_or_past}
 use Rattle.token.specs.declared.Token.{Token}
 use Rattle.std.specs.declared.cmp.Ordering.TheVariants.{Less}
@@ -77,6 +77,42 @@ in_place i h =
     let tests = both _ _ (each (within starts) (λ i. true) size names_within i h) in
     (leb-true _ _ tests.0, ltb-true _ _ tests.1)
 
+-- ---- the bytes of the names: each is ASCII, no name is empty, and none ends in a zero
+abbrev ascii : List ℕ → Bool
+ascii [] = true
+ascii (b ∷ l) = elim (ltb b 128) [ true ↦ ascii l | false ↦ false ]
+
+ascii_at : (l : List ℕ) → ascii l ≡ true → (k : ℕ) → get_or l k 0 < 128
+ascii_at [] e k = omega arith
+ascii_at (b ∷ l) e zero = ltb-true b 128 (both (ltb b 128) (ascii l) e).0
+ascii_at (b ∷ l) e (suc k) = ascii_at l (both (ltb b 128) (ascii l) e).1 k
+
+abbrev pub is_name : List ℕ → Bool
+is_name l = elim (ascii l) [ true ↦ not (eqb (get_or l (length l - 1) 0) 0) | false ↦ false ]
+
+-- what passes the test is a name: past its end, and so where it is empty, a byte is a zero
+pub record Name (l : List ℕ) : Type 0 where
+  pub bytes : (k : ℕ) → get_or l k 0 < 128
+  pub some : 0 < length l
+  pub ends : get_or l (length l - 1) 0 ≡ 0 → ⊥
+
+some_byte : (l : List ℕ) → (get_or l (length l - 1) 0 ≡ 0 → ⊥) → 0 < length l
+some_byte [] ends = absurd (ends refl)
+some_byte (b ∷ l) ends = omega arith
+
+pub is_name_lem : (l : List ℕ) → is_name l ≡ true → Name l
+is_name_lem l e =
+    let tests = both (ascii l) _ e in
+    let ends = eqb-false _ 0 (not-true _ tests.1) in
+    record { bytes = ascii_at l tests.0; some = some_byte l ends; ends = ends }
+
+pub all_names : tab (λ i. is_name (name_at i)) size ≡ tab (λ i. true) size
+unfolding name_at entries
+all_names = refl
+
+pub named : (i : ℕ) → i < size → Name (name_at i)
+named i h = is_name_lem (name_at i) (each (λ i. is_name (name_at i)) (λ i. true) size all_names i h)
+
 -- ---- the agreement: the arms give each name of the table the token of the table, and each arm's name is in the table
 agree : (other : Token) → tab (λ i. from_command (name_at i) other) size ≡ tab token_at size
 unfolding name_at token_at entries arms own_arms text width texts widths from_command
@@ -92,3 +128,7 @@ covered = refl
 pub absent : (s : List ℕ) (other : Token) → ((i : ℕ) → i < size → name_at i ≡ s → ⊥) → from_command s other ≡ other
 unfolding from_command
 absent s other none = first_none name_at size s other none own_arms covered
+
+-- so a string that is no such name is none of a command
+pub unnamed : (s : List ℕ) (other : Token) → (Name s → ⊥) → from_command s other ≡ other
+unnamed s other f = absent s other (λ i h e. f (subst Name e (named i h)))

@@ -74,6 +74,19 @@ marked b w (inl e) r = marked_at 38 b w e (λ z. never cc) refl r
 marked b w (inr (inl e)) r = marked_at 60 b w e (λ z. never cc) refl r
 marked b w (inr (inr e)) r = marked_at 62 b w e (λ z. never cc) refl r
 
+-- .. and one that stands for it in each dialect: in the old one it stands as itself
+marked_old : (k b : ℕ) (r : Option (Bor (List ℕ))) → b ≡ k → encode k ≡ twice k → twice k ≡ k ∷ [] → Reference Dialect.Old b r → Stands (in_text Dialect.Old (twice b)) b r
+unfolding in_text
+marked_old k b (Some text) e same stays r = rw e (rw e at r ∙ same)
+marked_old k b None e same stays r = rw e stays
+
+pub marked_in : (d : Dialect) (b : ℕ) (r : Option (Bor (List ℕ))) → OneOf markup b → Reference d b r → Stands (in_text d (twice b)) b r
+unfolding text_opens escape escapes escape_by control
+marked_in Dialect.Old b w (inl e) r = marked_old 38 b w e refl refl r
+marked_in Dialect.Old b w (inr (inl e)) r = marked_old 60 b w e refl refl r
+marked_in Dialect.Old b w (inr (inr e)) r = marked_old 62 b w e refl refl r
+marked_in Dialect.Strict b w one r = marked b w one r
+
 -- no other byte is changed by XML, nor is its escape: one test of all bytes
 abbrev unless : ℕ → List ℕ → List ℕ
 unless b l = elim (among markup b) [ true ↦ [] | false ↦ l ]
@@ -88,6 +101,24 @@ unmarked b h other =
     let none = outside markup b (((tt, λ e. other (inr (inr e))), λ e. other (inr (inl e))), λ e. other (inl e)) in
     let q = each (λ i. unless i (xml_text (twice i))) (λ i. unless i (twice i)) 256 all_unmarked b h in
     rw (none, unless) at q
+
+-- so no dialect changes another byte's escape
+module _ (b : ℕ) (high : b < 256) (ampersand : b ≡ 38 → ⊥) (less : b ≡ 60 → ⊥) (greater : b ≡ 62 → ⊥) where
+  no_markup : OneOf markup b → ⊥
+  no_markup (inl e) = ampersand e
+  no_markup (inr (inl e)) = less e
+  no_markup (inr (inr e)) = greater e
+
+  pub unmarked_in : (d : Dialect) → in_text d (twice b) ≡ twice b
+  unfolding in_text
+  unmarked_in Dialect.Old = refl
+  unmarked_in Dialect.Strict = unmarked b high no_markup
+
+-- and a byte of a letter stands as itself
+pub letter_stays : (b : ℕ) → 64 ≤ b → b < 256 → (b ≡ 92 → ⊥) → (b ≡ 127 → ⊥) → (d : Dialect) → in_text d (twice b) ≡ b ∷ []
+letter_stays b low high back delete d =
+    unmarked_in b high (λ e. omega arith) (λ e. omega arith) (λ e. omega arith) d
+    ∙ plain_twice b (plain_byte b (omega arith) (λ e. omega arith) back delete)
 
 -- a byte escaped twice, and the first of a part
 pub twice_cons : (b : ℕ) (l : List ℕ) → escape (escape (b ∷ l)) ≡ escape (escape_by escapes b) ++ escape (escape l)

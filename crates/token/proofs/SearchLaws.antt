@@ -1,15 +1,17 @@
 -- What std's search of the rows finds: the place of a name in the table, or that the table has no such name.
 -- Assumes nothing.
-use Rattle.std.specs.Prelude.{◌≡◌, ℕ, ◌+◌, ◌-◌, ◌<◌, ◌≤◌, List, length, map, drop, slice_index_or, slice_range, Err}
+use Rattle.std.specs.Prelude.{◌≡◌, ℕ, min, ◌+◌, ◌-◌, ◌<◌, ◌≤◌, List, length, map, drop, slice_index_or, slice_range, Err}
 use mathlib.Core.Path.{refl, sym, ap, subst, ◌∙◌}
 use mathlib.Core.List as L
 use native.Mathlib.Omega.{arith}
 use denote.Ref.{Bor}
-use Rattle.std.specs.Cmp.{tied_itself}
+use Rattle.std.specs.Cmp.{tied_itself, ranked}
 use Rattle.std.specs.Cmp.Lexicographic.{nat_list_cmp_total, bytes_decides}
 use Rattle.std.specs.List.Sorted.{IsBinarySearchResult, IsPartitionPoint, IsSortedBy}
-use Rattle.std.specs.Ordering.{is_lt, is_eq}
+use Rattle.std.specs.Ordering.{is_lt, is_eq, nat_cmp}
+use Rattle.std.specs.declared.cmp.Ordering.{Ordering}
 use Rattle.std.specs.declared.cmp.Ordering.TheVariants.{Less, Equal, Greater}
+use Rattle.std.proofs.lemmas.Cmp.{by_ranked}
 use Rattle.std.proofs.lemmas.List.{length-map, get_or-map, length-take, length-drop, get_or-take, get_or-drop}
 use Rattle.std.proofs.lemmas.List.Sorted.{searchable_from_sorted}
 use Rattle.std.proofs.lemmas.Map.Text.{is_eq-slice_cmp}
@@ -24,8 +26,35 @@ use Rattle.text.proofs.Cases.{by_order, never}
 use Rattle.token.proofs.Agree.{rising, start_rises, first_at, in_place, found, absent}
 
 -- names that compare as equal are equal
-same_name : (s t : List ℕ) → cmp s t ≡ Equal → s ≡ t
+pub same_name : (s t : List ℕ) → cmp s t ≡ Equal → s ≡ t
 same_name s t e = (bytes_decides s t).0 (sym (is_eq-slice_cmp s t) ∙ ap is_eq e)
+
+-- where a name ends, what it has left is less than what another has left
+ends_first : (s t : List ℕ) → length s < length t → Less ≡ cmp (drop (length s) s) (drop (length s) t)
+ends_first L.[] L.[] h = absurd (omega arith)
+ends_first L.[] (L.◌∷◌ y t) h = refl
+ends_first (L.◌∷◌ x s) L.[] h = absurd (omega arith)
+ends_first (L.◌∷◌ x s) (L.◌∷◌ y t) h = ends_first s t (omega arith)
+
+ends_last : (s t : List ℕ) → length t < length s → Greater ≡ cmp (drop (length t) s) (drop (length t) t)
+ends_last L.[] L.[] h = absurd (omega arith)
+ends_last (L.◌∷◌ x s) L.[] h = refl
+ends_last L.[] (L.◌∷◌ y t) h = absurd (omega arith)
+ends_last (L.◌∷◌ x s) (L.◌∷◌ y t) h = ends_last s t (omega arith)
+
+end_together : (s t : List ℕ) → length s ≡ length t → Equal ≡ cmp (drop (length s) s) (drop (length s) t)
+end_together L.[] L.[] h = refl
+end_together L.[] (L.◌∷◌ y t) h = absurd (omega arith)
+end_together (L.◌∷◌ x s) L.[] h = absurd (omega arith)
+end_together (L.◌∷◌ x s) (L.◌∷◌ y t) h = end_together s t (omega arith)
+
+-- so past the bytes that two names have both, their lengths decide
+pub by_lengths : (s t : List ℕ) (i : ℕ) (r : Ordering) → i ≡ min (length s) (length t) → r ≡ nat_cmp (length s) (length t) → r ≡ cmp (drop i s) (drop i t)
+by_lengths s t i r e h =
+    by_ranked (length s < length t) (length s ≡ length t) (length t < length s) r (ranked (length s) (length t) r h)
+    (λ is less. let shorter : i ≡ length s = omega arith in rw (is, shorter) (ends_first s t less))
+    (λ is same. let shorter : i ≡ length s = omega arith in rw (is, shorter) (end_together s t same))
+    (λ is more. let shorter : i ≡ length t = omega arith in rw (is, shorter) (ends_last s t more))
 
 entries_size : length entries ≡ size
 unfolding entries

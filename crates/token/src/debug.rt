@@ -12,7 +12,9 @@ use text::Dialect;
 use text::put::Output;
 use text::xml::reference;
 
-// What a byte of a name is after both escapes, where it does not stand as itself.
+// What a byte of a name is after both escapes, where it does not stand as itself. Never inlined: the bytes that stand as themselves would then be looked
+// for in its list as well.
+#[inline(never)]
 #[tactic(auto, unfolding(text::specs::Examples::text_opens, crate::specs::Debug::digit, crate::specs::Debug::hexadecimal, crate::specs::Debug::control, crate::specs::Debug::escapes, crate::specs::Debug::escape_by, crate::specs::Debug::escape))]
 fn escaped_twice(b: u8) -> Option<&'static [u8]>
     ensures { Stands (escape (escape_by escapes b)) b result }
@@ -57,16 +59,15 @@ fn escaped_twice(b: u8) -> Option<&'static [u8]>
     }
 }
 
-// .. in a dialect: no escape has a byte that XML reads as markup.
+// .. in a dialect: no escape has a byte that XML reads as markup. The bytes of letters come first, since most names have no others, and what
+// `escaped_twice` gives comes back through memory.
 fn escaped_in(dialect: Dialect, b: u8) -> Option<&'static [u8]>
     ensures { Stands (in_text dialect (escape (escape_by escapes b))) b result }
 {
-    match dialect {
-        Dialect::Old => escaped_twice(b),
-        Dialect::Strict => match b {
-            38 | 60 | 62 => reference(dialect, u32::from(b)),
-            _ => escaped_twice(b),
-        },
+    match b {
+        65..=91 | 93..=126 | 128..=255 => None,
+        38 | 60 | 62 => reference(dialect, u32::from(b)),
+        _ => escaped_twice(b),
     }
 }
 

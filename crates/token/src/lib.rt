@@ -99,6 +99,34 @@ impl Token {
     }
 }
 
+// The order of a row's name and one that is long, which may begin as others do: std's goes by groups of bytes. Never inlined, so that `compare` can be.
+#[inline(never)]
+fn compare_long(row: &[u8], name: &[u8]) -> Ordering
+    ensures { result ≡ cmp row.now name.now }
+{
+    row.cmp(name)
+}
+
+// The order of a row's name and a name. A short one differs from most in its first bytes, so these go one by one, with a branch for each answer: so the
+// search runs ahead of the comparisons.
+#[inline(always)]
+fn compare(row: &[u8], name: &[u8]) -> Ordering
+    ensures { result ≡ cmp row.now name.now }
+{
+    if name.len() >= 8 {
+        return compare_long(row, name);
+    }
+    for i in 0..row.len().min(name.len()) {
+        if row[i] < name[i] {
+            return Ordering::Less;
+        }
+        if row[i] > name[i] {
+            return Ordering::Greater;
+        }
+    }
+    row.len().cmp(&name.len())
+}
+
 // The token of the command with a name, or the one given for a name that is unknown, as its definition takes one.
 pub fn from_command(name: &[u8], unknown: Token) -> Token
     ensures { result ≡ from_command name.now unknown }
@@ -110,7 +138,7 @@ pub fn from_command(name: &[u8], unknown: Token) -> Token
     match rows.binary_search_by(
         |row| -> Ordering
             ensures { result ≡ cmp row.now.0.now name.entry.now }
-        { row.0.as_bytes().cmp(name) },
+        { compare(row.0.as_bytes(), name) },
     ) {
         Ok(i) => rows[i].1,
         Err(_) => unknown,

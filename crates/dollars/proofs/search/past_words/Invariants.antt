@@ -6,6 +6,6 @@ use Rattle.dollars.specs.Places.{next_place}
 use Rattle.dollars.specs.Search.{starts_with}
 use Rattle.dollars.proofs.search.past_words.Given as goal
 
-abbrev pub invariant-loop-k : goal.invariant-loop-k
-invariant-loop-k l =
-    next_place (starts_with l.b) l.from (drop l.from l.s) ≡ next_place (starts_with l.b) (l.from + 8 * l.k) (drop (l.from + 8 * l.k) l.s)
+abbrev pub invariant-loop-word : goal.invariant-loop-word
+invariant-loop-word l =
+    (next_place (starts_with l.b) l.from (drop l.from l.s) ≡ next_place (starts_with l.b) l.i (drop l.i l.s)) × (l.i ≡ l.from + 8 * l.word-index)

@@ -13,5 +13,5 @@ returns c =
     let o = c.args.self.now.bytes.now in
     let at = c.args.self.now.at in
     let bs = c.args.piece.now in
-    let bytes : put_mid at (at + length bs - at) o c.copy_from_slice.new.self ≡ put o at bs = rw (c.copy_from_slice.ensures.after, Post-is at (at + length bs) o (omega arith)) (sym (append_assoc (take at o) bs (drop (at + length bs) o))) in
+    let bytes : put_mid at (at + length bs - at) o c.copy.new.place ≡ put o at bs = rw (c.copy.ensures, Post-is at (at + length bs) o (omega arith)) (sym (append_assoc (take at o) bs (drop (at + length bs) o))) in
     record { same = refl; puts = record { place = refl; output = bytes } }
