@@ -1,7 +1,7 @@
 // The lengths of what is printed: a match gives constants and the lengths of texts, and nothing is put. A record is measured by its numbers: by a
 // `Shape` pages took 11 to 21 % longer, measured on an older toolchain (docs/DECISIONS.md, 74). Of the places only that under a slash changes its
 // length, so `slashed` stands for `Place`: what a mark of a matrix prints in a cell is counted by `print::measure`. A leaf, a front and a
-// back have lengths of their own besides, since a record's says neither what stands in a cell nor where its parts stand.
+// back have lengths of their own besides, for who puts them alone: a record's says neither what stands in a cell nor where its parts stand.
 ghost use Rattle.std.specs.Prelude.{◌≡◌, ◌^◌, ◌≤◌, ◌<◌, length};
 ghost use Rattle.token.specs.Debug.{Inside};
 ghost use Rattle.ast.specs.declared.Leaf.{Leaf};

@@ -76,7 +76,6 @@ past_run s (suc n) at e {l} f =
 -- On the way past the letters from a place on, where l is the next token: what is behind the letters from it on is behind them all.
 pub record Passing (s : List ℕ) (from : ℕ) (l : Lexeme) : Type 0 where
   pub at : ℕ
-  pub reached : from ≤ at
   pub inside : at ≤ length s
   pub is : l ≡ next_token at (drop at s)
   pub ends : l.end ≤ length s
@@ -90,7 +89,6 @@ pub passing_first : {s : List ℕ} {from at : ℕ} {l : Lexeme} → at ≡ from 
     → l.end ≤ length s → Passing s from l
 passing_first {s} {from} {at} {l} run-is inside is ends = record {
   at = at;
-  reached = omega arith;
   inside = inside;
   is = is;
   ends = ends;
@@ -98,27 +96,21 @@ passing_first {s} {from} {at} {l} run-is inside is ends = record {
 }
 
 -- .. and where l is a letter, and l' the token behind the ASCII letters behind it
-module _ {s : List ℕ} {from : ℕ} {l : Lexeme} (p : Passing s from l) (c : ℕ) (v : Variant) (e : l.token ≡ Token.Letter c v) {l' : Lexeme} (q : Passing s l.end l') where
-  pub passing_more : Passing s from l'
-  passing_more =
-      let here = rw (← p.is) at (next_lies s p.at p.inside) in
-      let first = p.reached in
-      let then = q.reached in
-      record {
-        at = q.at;
-        reached = omega (arith, here.from, here.wide);
-        inside = q.inside;
-        is = q.is;
-        ends = q.ends;
-        on = λ x h. p.on x (past_on s p.at p.inside l p.is c v e (q.on x h));
-      }
+module _ {s : List ℕ} {from : ℕ} {l : Lexeme} (p : Passing s from l) (c : ℕ) (v : Variant) (e : l.token ≡ Token.Letter c v) {l' : Lexeme} where
+  pub passing_more : Passing s l.end l' → Passing s from l'
+  passing_more q = record {
+    at = q.at;
+    inside = q.inside;
+    is = q.is;
+    ends = q.ends;
+    on = λ x h. p.on x (past_on s p.at p.inside l p.is c v e (q.on x h));
+  }
 
-  pub passing_less : (l.start < length s) × (l.start < l'.start)
+  pub passing_less : {at : ℕ} → l.end ≤ at → at ≤ length s → l' ≡ next_token at (drop at s) → (l.start < length s) × (l.start < l'.start)
   unfolding letter_of
-  passing_less =
+  passing_less {at} reached inside is =
       let here = rw (← p.is) at (next_lies s p.at p.inside) in
-      let there = rw (← q.is) at (next_lies s q.at q.inside) in
-      let behind = q.reached in
+      let there = rw (← is) at (next_lies s at inside) in
       let byte = letter_byte l.token c (rw e) in
       (omega (arith, here.wide, here.inside), omega (arith, here.wide, there.from))
 

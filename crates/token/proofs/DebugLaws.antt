@@ -114,7 +114,7 @@ module _ (b : ℕ) (high : b < 256) (ampersand : b ≡ 38 → ⊥) (less : b ≡
   unmarked_in Dialect.Old = refl
   unmarked_in Dialect.Strict = unmarked b high no_markup
 
--- and a byte of a letter stands as itself
+-- and a byte from 64 on, but the backslash and DEL, stands as itself
 pub letter_stays : (b : ℕ) → 64 ≤ b → b < 256 → (b ≡ 92 → ⊥) → (b ≡ 127 → ⊥) → (d : Dialect) → in_text d (twice b) ≡ b ∷ []
 letter_stays b low high back delete d =
     unmarked_in b high (λ e. omega arith) (λ e. omega arith) (λ e. omega arith) d

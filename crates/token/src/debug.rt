@@ -59,8 +59,8 @@ fn escaped_twice(b: u8) -> Option<&'static [u8]>
     }
 }
 
-// .. in a dialect: no escape has a byte that XML reads as markup. The bytes of letters come first, since most names have no others, and what
-// `escaped_twice` gives comes back through memory.
+// .. in a dialect: no escape has a byte that XML reads as markup. The bytes from the letters on that stand as themselves come first, since most
+// names have no others, and what `escaped_twice` gives comes back through memory.
 fn escaped_in(dialect: Dialect, b: u8) -> Option<&'static [u8]>
     ensures { Stands (in_text dialect (escape (escape_by escapes b))) b result }
 {

@@ -42,8 +42,8 @@ impl From<Result<Totals, Refusal>> for Numbers {
     }
 }
 
-// Asks a question of a text. A case cannot lend more than there is. The three buffers are no struct: `compare` makes them once, and looks at two of them
-// by themselves afterwards.
+// Asks a question of a text. A case cannot lend more than there is. The three buffers are no struct: `compare` makes those that a question wants,
+// and looks at two of them by themselves afterwards.
 pub fn ask(
     case: Case,
     question: Question,

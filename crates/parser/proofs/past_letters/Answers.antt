@@ -20,7 +20,7 @@ pub loop-l-smaller : goal.loop-l-smaller
 loop-l-smaller c =
     let run = c.past_alphabetic-in-Letter in
     let n = c.token_from-l-in-Letter in
-    omega (arith, passing_less c.loop-l.invariant _ _ c.in-Letter.is (passing_first run.ensures.0 run.ensures.1 n.ensures.0 n.ensures.1))
+    omega (arith, passing_less c.loop-l.invariant _ _ c.in-Letter.is (omega (arith, run.ensures.0)) run.ensures.1 n.ensures.0)
 
 pub returns : goal.returns
 returns c =
