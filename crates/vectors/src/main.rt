@@ -112,13 +112,13 @@ fn count_answers(rt: &impl Print, case: Case, text: &[u8], line: &[u8], tally: T
     }
 }
 
-// Replays the case of a line.
+// Replays the case of a line. The buffer comes first: behind the reading of the head it would be cleared twice.
 fn replay(rt: &impl Print, mut line: &[u8], tally: Tally) -> Tally
     requires { AtMost tally 1600000 }
     ensures { Grows tally result 3 }
 {
-    let case = read_head(&mut line);
     let mut buffer = [0u8; 65536];
+    let case = read_head(&mut line);
     let mut input = Filled::new(&mut buffer);
     input.unpack(&mut line);
     let counted = tally.with_case(case);
