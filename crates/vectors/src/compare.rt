@@ -96,8 +96,8 @@ fn compare_page(case: Case, text: &[u8], mut line: &[u8]) -> Verdict {
     compare_over(case, Question::Page, text, &mut line, &mut work)
 }
 
-// Compares the answer to a question. A body wants no work buffer, and clearing one takes as long as its translation, so each question has the buffers that it
-// wants and no more.
+// Compares the answer to a question. A body wants no work buffer, and clearing one takes longer than to translate a short body, so each question has the
+// buffers that it wants and no more.
 pub fn compare(case: Case, question: Question, text: &[u8], mut line: &[u8]) -> Verdict {
     match question {
         Question::Body(_) => compare_over(case, question, text, &mut line, &mut []),
